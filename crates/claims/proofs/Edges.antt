@@ -1,0 +1,43 @@
+-- The lettered cases, by computation.
+use mathlib.Core.Path.{refl}
+use Rattle.layout.specs.Below.{allBelow, anyBelow, countBelow, lowest}
+use Rattle.layout.specs.Checks.{first, commonFault, answered}
+use Rattle.layout.specs.Image.{shapedB, occupiedB}
+use Rattle.layout.specs.Lay.{layFault, layAnswer}
+use Rattle.layout.specs.Log.{denotedBy, unsoundB, sharedB}
+use Rattle.layout.specs.Oldest.{oldestOf}
+use Rattle.desk.specs.Desk.{unmarked}
+use Rattle.desk.specs.Coherent.{freshB, placesOk, sessionOk, copiesB, coherentB}
+use Rattle.store.specs.Session.{matchesB, imageFault}
+use Rattle.store.specs.Open.{openFault, openReply}
+use Rattle.store.specs.Read.{readFault, readReply}
+use Rattle.store.specs.Write.{copyFault, writeFault, writeRefused, writeReply}
+use Rattle.store.specs.Finish.{finishFault, copiesEntries, finishEntries, finishReply}
+use Rattle.store.specs.Reclaim.{reclaimFault, reclaimReply}
+use Rattle.store.specs.Recover.{unsoundPlace, tiedBelow, tiesB, recoverFault, firstLog, recoverRefused, recoverReply}
+use Rattle.claims.specs.Edges.{Edges}
+
+pub edges : Edges
+unfolding allBelow anyBelow countBelow lowest first commonFault answered shapedB occupiedB layFault layAnswer denotedBy unsoundB sharedB oldestOf unmarked freshB placesOk sessionOk copiesB coherentB matchesB imageFault openFault openReply readFault readReply copyFault writeFault writeRefused writeReply finishFault copiesEntries finishEntries finishReply reclaimFault reclaimReply unsoundPlace tiedBelow tiesB recoverFault firstLog recoverRefused recoverReply
+edges =
+    record {
+      a-lay = refl;
+      a-lay-short = refl;
+      a-open = refl;
+      a-open-short = refl;
+      b = refl;
+      c-answer = refl;
+      c-words = refl;
+      d-answer = refl;
+      d-words = refl;
+      e = refl;
+      f = refl;
+      g-seals = refl;
+      g-refused = refl;
+      h = refl;
+      i = refl;
+      j = refl;
+      k = refl;
+      m = refl;
+      n = refl;
+    }

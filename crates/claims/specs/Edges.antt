@@ -1,0 +1,115 @@
+-- Document 01, "At the edges": the thirteen lettered cases as one table.
+use Prim.Native.Nat.{ℕ, _+_, _-_}
+use mathlib.Core.Bool.{true}
+use mathlib.Core.Path.{_≡_}
+use mathlib.Core.List.{List, [], _∷_, _++_}
+use lib.ListN.{getD, set, replicate, take}
+use Rattle.layout.specs.Crash.{crashed}
+use Rattle.layout.specs.Image.{slotAt, homeAt}
+use Rattle.layout.specs.Lay.{emptyImage, layAnswer}
+use Rattle.layout.specs.Told.{Told, refusal, result, layTold}
+use Rattle.desk.specs.Desk.{zeroCopy, idleSession}
+use Rattle.desk.specs.Coherent.{limit}
+use Rattle.desk.specs.declared.state.Phase.{Phase}
+use Rattle.desk.specs.declared.state.Phase.the-variants.{Idle, Active, Sealed, Published}
+use Rattle.desk.specs.declared.state.RecordCopy.{RecordCopy}
+use Rattle.desk.specs.declared.state.Session.{Session}
+use Rattle.desk.specs.declared.state.Desk.{Desk}
+use Rattle.store.specs.Open.{openReply, freshDesk}
+use Rattle.store.specs.Read.{readReply}
+use Rattle.store.specs.Write.{writeReply}
+use Rattle.store.specs.Finish.{finishReply, finishEntries}
+use Rattle.store.specs.Reclaim.{reclaimReply}
+use Rattle.store.specs.Recover.{recoverReply}
+use Rattle.store.specs.Told.{openTold, writeTold, finishTold, recoverTold}
+use Rattle.store.specs.declared.reading.ReadReply.{ReadReply}
+use Rattle.store.specs.declared.reading.ReadAnswer.the-variants.{Copy, Home}
+use Rattle.store.specs.declared.writing.WriteAnswer.the-variants.{Ok}
+use Rattle.store.specs.declared.finishing.FinishAnswer.the-variants.{Sealed as SealedAt}
+use Rattle.store.specs.declared.reclaiming.ReclaimAnswer.the-variants.{Held, Cleared}
+use Rattle.store.specs.declared.recovering.RecoverAnswer.the-variants.{Clean, Replayed}
+
+-- a store of 8 records and 2 sessions
+abbrev pub image : List ℕ
+image = emptyImage 8 2
+
+-- the same with word w of the slot at place p set
+abbrev pub withSlot : ℕ → ℕ → ℕ → List ℕ → List ℕ
+withSlot p w x img = set img (slotAt 8 p + w) x
+
+-- a copy of record r, and a session with copies of records 0, 1, ..
+abbrev pub copyOf : ℕ → RecordCopy
+copyOf r = record { rec = r; words = (r + 5) ∷ 6 ∷ 7 ∷ 8 ∷ [] }
+
+abbrev pub oneCopy : Phase → Session
+oneCopy p = record { phase = p; count = 1; slot = 0; copies = copyOf 0 ∷ zeroCopy ∷ zeroCopy ∷ zeroCopy ∷ [] }
+
+abbrev pub fourCopies : Session
+fourCopies = record { phase = Active 1; count = 4; slot = 0; copies = copyOf 0 ∷ copyOf 1 ∷ copyOf 2 ∷ copyOf 3 ∷ [] }
+
+abbrev pub noCopies : Phase → Session
+noCopies p = record { phase = p; count = 0; slot = 0; copies = replicate 4 zeroCopy }
+
+-- a desk with two sessions, of which the first holds the records that `marks` says
+abbrev pub deskOf : ℕ → List ℕ → Session → Session → Desk
+deskOf clock marks x y =
+    record {
+      clock = clock;
+      n = 8;
+      m = 2;
+      holders = marks ++ replicate 252 0;
+      sessions = x ∷ y ∷ replicate 14 idleSession;
+    }
+
+abbrev pub one : List ℕ
+one = 1 ∷ 0 ∷ 0 ∷ 0 ∷ []
+
+abbrev pub four : List ℕ
+four = 1 ∷ 1 ∷ 1 ∷ 1 ∷ []
+
+abbrev pub none : List ℕ
+none = replicate 4 0
+
+-- a reader with this start, of record 0, which session 0 has published with this end
+abbrev pub readAt : ℕ → ℕ → ReadReply
+readAt start end = readReply image (deskOf 6 one (oneCopy (Published end)) (noCopies (Active start))) 1 0
+
+-- session 0 finishes one copy at this clock, and power fails once the first k entries have arrived
+abbrev pub finishing : ℕ → Desk
+finishing clock = deskOf clock one (oneCopy (Active 1)) idleSession
+
+abbrev pub cutAfter : ℕ → List ℕ
+cutAfter k = crashed k (λ n. true) (finishEntries image (finishing 3) 48 0) image
+
+-- session 0 has settled a log of persist number 5, and session 1's slot 0 has the number p
+abbrev pub settled : ℕ → List ℕ
+settled p = withSlot 0 0 5 (withSlot 2 0 p image)
+
+pub record Edges : Type 0 where
+  -- A: N 256, M 16: 1,732 words pass, 1,731 give 1
+  pub a-lay : layTold (layAnswer 256 16 (replicate 1732 9)) ≡ result 0
+  pub a-lay-short : layTold (layAnswer 256 16 (replicate 1731 9)) ≡ refusal 1
+  pub a-open : openTold (openReply (emptyImage 256 16) .answer) ≡ result 0
+  pub a-open-short : openTold (openReply (take 1731 (emptyImage 256 16)) .answer) ≡ refusal 1
+  -- B: N 257 gives 14
+  pub b : layTold (layAnswer 257 16 (replicate 1736 9)) ≡ refusal 14
+  -- C: start 6, holder's end 6: copy; D: start 5, end 6: home
+  pub c-answer : readAt 6 6 .answer ≡ Copy
+  pub c-words : readAt 6 6 .words ≡ 5 ∷ 6 ∷ 7 ∷ 8 ∷ []
+  pub d-answer : readAt 5 6 .answer ≡ Home
+  pub d-words : readAt 5 6 .words ≡ replicate 4 0
+  -- E: four copies, write to a fifth record: 8; F: write again to one of the four: accepted
+  pub e : writeTold (writeReply image (deskOf 1 four fourCopies idleSession) 0 4 (replicate 4 1) .answer) ≡ refusal 8
+  pub f : writeReply image (deskOf 1 four fourCopies idleSession) 0 3 (replicate 4 1) .answer ≡ Ok
+  -- G: clock L - 1 seals; at L, 10
+  pub g-seals : finishReply image (finishing (limit - 1)) 48 0 .answer ≡ SealedAt (limit - 1)
+  pub g-refused : finishTold (finishReply image (finishing limit) 48 0 .answer) ≡ refusal 10
+  -- H: one copy, 7 entries arrive: no log to replay; I: 8 arrive: replayed
+  pub h : recoverReply (cutAfter 7) 48 .answer ≡ Clean
+  pub i : recoverReply (cutAfter 8) 48 .answer ≡ Replayed 3
+  -- J: persist 5 settled, another slot at 4: held; K: another slot at 5: cleared
+  pub j : reclaimReply (settled 4) (freshDesk 5 8 2) 48 0 .answer ≡ Held 4
+  pub k : reclaimReply (settled 5) (freshDesk 5 8 2) 48 0 .answer ≡ Cleared 5
+  -- M: count 5 with persist number 0 is ignored; N: with persist number 3 it gives 12
+  pub m : recoverReply (withSlot 1 1 5 image) 48 .answer ≡ Clean
+  pub n : recoverTold (recoverReply (withSlot 1 0 3 (withSlot 1 1 5 image)) 48 .answer) ≡ record { number = 12; value = 1 }

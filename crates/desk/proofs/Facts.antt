@@ -1,0 +1,136 @@
+-- What a coherent desk is, as plain facts, and that `coherentB` is true just there.
+use Prim.Native.Nat.{ℕ, _+_, _<_, _≤_}
+use mathlib.Core.Bool.{Bool, true}
+use mathlib.Core.Path.{_≡_, refl}
+use mathlib.Core.Logic.{_⊎_}
+use Rattle.layout.specs.Below.{allBelow, countBelow}
+use Rattle.layout.proofs.Says.{Says, says-le, says-lt, says-eq, says-ne, says-and, says-or, says-same, says-all, says-any, says-if, says-itself, says-by}
+use Rattle.desk.specs.declared.state.Desk.{Desk}
+use Rattle.desk.specs.declared.state.Session.{Session}
+use Rattle.desk.specs.declared.state.Phase.{Phase}
+use Rattle.desk.specs.declared.state.Phase.the-variants.{Idle, Active, Sealed, Published}
+use Rattle.desk.specs.Desk.{copyAt, sessionAt, markAt, isIdle}
+use Rattle.desk.specs.Coherent.{limit, copiesB, markOk, entryOk, sessionOk, placesOk, placeOk, freshB, countOk, numberOk, zeroCopyB, sealedAt, sizesOk, coherentB}
+
+abbrev pub CountIn : Phase → ℕ → Type 0
+CountIn Idle k = k ≡ 0
+CountIn (Active b) k = k ≤ 4
+CountIn (Sealed p) k = (1 ≤ k) × (k ≤ 4)
+CountIn (Published e) k = (1 ≤ k) × (k ≤ 4)
+
+pub says-count : (p : Phase) (k : ℕ) → Says (countOk p k) (CountIn p k)
+says-count Idle k = says-eq k 0
+says-count (Active b) k = says-le k 4
+says-count (Sealed p) k = says-and (says-le 1 k) (says-le k 4)
+says-count (Published e) k = says-and (says-le 1 k) (says-le k 4)
+
+abbrev pub NumberIn : Phase → ℕ → Type 0
+NumberIn Idle t = Unit {0}
+NumberIn (Active b) t = (1 ≤ b) × (b ≤ t)
+NumberIn (Sealed p) t = (1 ≤ p) × (p ≤ t)
+NumberIn (Published e) t = (2 ≤ e) × (e ≤ t)
+
+pub says-number : (p : Phase) (t : ℕ) → Says (numberOk p t) (NumberIn p t)
+says-number Idle t = record { yes = λ e. tt; no = λ u. refl }
+says-number (Active b) t = says-and (says-le 1 b) (says-le b t)
+says-number (Sealed p) t = says-and (says-le 1 p) (says-le p t)
+says-number (Published e) t = says-and (says-le 2 e) (says-le e t)
+
+-- place j of a session
+abbrev pub PlaceIn : Session → ℕ → ℕ → Type 0
+PlaceIn e n j =
+    (j < e .count → (copyAt e j .rec < n) × ((i : ℕ) → i < j → copyAt e i .rec ≡ copyAt e j .rec → ⊥))
+    × ((j < e .count → ⊥) → zeroCopyB (copyAt e j) ≡ true)
+
+pub says-place : (e : Session) (n j : ℕ) → Says (placeOk e n j) (PlaceIn e n j)
+unfolding freshB
+says-place e n j =
+    says-if (says-lt j (e .count))
+    (says-and (says-lt (copyAt e j .rec) n) (says-all j (λ i. says-ne (copyAt e i .rec) (copyAt e j .rec))))
+    (says-itself (zeroCopyB (copyAt e j)))
+
+pub record SessionIn (clock n : ℕ) (e : Session) : Type 0 where
+  pub count : CountIn (e .phase) (e .count)
+  pub number : NumberIn (e .phase) clock
+  pub slot-small : e .slot ≤ 1
+  pub slot-none : (1 ≤ e .count) ⊎ (e .slot ≡ 0)
+  pub places : (j : ℕ) → j < 4 → PlaceIn e n j
+
+pub says-session : (clock n : ℕ) (e : Session) → Says (sessionOk clock n e) (SessionIn clock n e)
+unfolding sessionOk placesOk
+says-session clock n e =
+    says-by
+    (says-and
+    (says-and (says-and (says-count (e .phase) (e .count)) (says-number (e .phase) clock))
+    (says-and (says-le (e .slot) 1) (says-or (says-le 1 (e .count)) (says-eq (e .slot) 0))))
+    (says-all 4 (says-place e n)))
+    (λ t. record { count = t .0 .0 .0; number = t .0 .0 .1; slot-small = t .0 .1 .0; slot-none = t .0 .1 .1; places = t .1 })
+    (λ r. (((r .count, r .number), (r .slot-small, r .slot-none)), r .places))
+
+-- the session copies the record k, at place j
+abbrev pub Copies : Session → ℕ → Type 0
+Copies e k = (j : ℕ) × (j < 4) × ((j < e .count) × (copyAt e j .rec ≡ k))
+
+pub says-copies : (e : Session) (k : ℕ) → Says (copiesB e k) (Copies e k)
+unfolding copiesB
+says-copies e k = says-any 4 (λ j. says-and (says-lt j (e .count)) (says-eq (copyAt e j .rec) k))
+
+abbrev pub MarkIs : Desk → ℕ → Type 0
+MarkIs d k =
+    ((markAt d k ≤ 16) × ((s : ℕ) → s < 16 → (markAt d k ≡ s + 1 → Copies (sessionAt d s) k) × (Copies (sessionAt d s) k → markAt d k ≡ s + 1)))
+    × ((k < d .n) ⊎ (markAt d k ≡ 0))
+
+pub says-mark : (d : Desk) (k : ℕ) → Says (markOk d k) (MarkIs d k)
+says-mark d k =
+    says-and
+    (says-and (says-le (markAt d k) 16) (says-all 16 (λ s. says-same (says-eq (markAt d k) (s + 1)) (says-copies (sessionAt d s) k))))
+    (says-or (says-lt k (d .n)) (says-eq (markAt d k) 0))
+
+pub says-marks : (d : Desk) → Says (allBelow 256 (markOk d)) ((k : ℕ) → k < 256 → MarkIs d k)
+says-marks d = says-all 256 (says-mark d)
+
+pub record Coherent (d : Desk) : Type 0 where
+  pub clock-low : 1 ≤ d .clock
+  pub clock-high : d .clock + countBelow 16 (sealedAt d) ≤ limit + 16
+  pub n-low : 1 ≤ d .n
+  pub n-high : d .n ≤ 256
+  pub m-low : 1 ≤ d .m
+  pub m-high : d .m ≤ 16
+  pub session : (s : ℕ) → s < 16 → SessionIn (d .clock) (d .n) (sessionAt d s)
+  pub idle : (s : ℕ) → s < 16 → (s < d .m) ⊎ (isIdle (sessionAt d s .phase) ≡ true)
+  pub marks : (k : ℕ) → k < 256 → MarkIs d k
+
+pub says-entries : (d : Desk)
+    → Says (allBelow 16 (entryOk d)) ((s : ℕ) → s < 16 → SessionIn (d .clock) (d .n) (sessionAt d s) × ((s < d .m) ⊎ (isIdle (sessionAt d s .phase) ≡ true)))
+says-entries d =
+    says-all 16 (λ s. says-and (says-session (d .clock) (d .n) (sessionAt d s)) (says-or (says-lt s (d .m)) (says-itself (isIdle (sessionAt d s .phase)))))
+
+abbrev pub Sizes : Desk → Type 0
+Sizes d =
+    (((1 ≤ d .clock) × (d .clock + countBelow 16 (sealedAt d) ≤ limit + 16)) × ((1 ≤ d .n) × (d .n ≤ 256))) × ((1 ≤ d .m) × (d .m ≤ 16))
+
+pub says-sizes : (d : Desk) → Says (sizesOk d) (Sizes d)
+says-sizes d =
+    says-and
+    (says-and (says-and (says-le 1 (d .clock)) (says-le (d .clock + countBelow 16 (sealedAt d)) (limit + 16)))
+    (says-and (says-le 1 (d .n)) (says-le (d .n) 256)))
+    (says-and (says-le 1 (d .m)) (says-le (d .m) 16))
+
+pub says-coherent : (d : Desk) → Says (coherentB d) (Coherent d)
+unfolding coherentB
+says-coherent d =
+    says-by
+    (says-and (says-sizes d) (says-and (says-entries d) (says-marks d)))
+    (λ t.
+    record {
+      clock-low = t .0 .0 .0 .0;
+      clock-high = t .0 .0 .0 .1;
+      n-low = t .0 .0 .1 .0;
+      n-high = t .0 .0 .1 .1;
+      m-low = t .0 .1 .0;
+      m-high = t .0 .1 .1;
+      session = λ s l. t .1 .0 s l .0;
+      idle = λ s l. t .1 .0 s l .1;
+      marks = t .1 .1;
+    })
+    (λ r. (((((r .clock-low, r .clock-high), (r .n-low, r .n-high)), (r .m-low, r .m-high))), (λ s l. (r .session s l, r .idle s l), r .marks)))

@@ -1,0 +1,35 @@
+-- Publish (document 01): sealed only. End is clock + 1 and the clock becomes that. Checks 2, 4, 6.
+use Prim.Native.Nat.{ℕ, _+_}
+use mathlib.Core.Bool.{true}
+use lib.Dec.{ltb}
+use lib.ListN.{set}
+use Rattle.layout.specs.Checks.{unless, first, commonFault, answered}
+use Rattle.desk.specs.Desk.{sessionAt, isSealed, withPhase}
+use Rattle.desk.specs.Coherent.{coherentB}
+use Rattle.desk.specs.declared.state.Phase.the-variants.{Published}
+use Rattle.desk.specs.declared.state.Desk.{Desk}
+use Rattle.desk.specs.declared.publish.PublishAnswer.the-variants.{Refused, End}
+use Rattle.desk.specs.declared.publish.PublishReply.{PublishReply}
+
+unfoldable pub publishFault : Desk → ℕ → ℕ
+publishFault d s = first (commonFault true (coherentB d) true (ltb s (d .m))) (unless (isSealed (sessionAt d s .phase)) 6)
+
+abbrev pub publishRefused : Desk → ℕ → PublishReply
+publishRefused d k = record { answer = Refused k; desk = d }
+
+abbrev pub published : Desk → ℕ → PublishReply
+published d s =
+    record {
+      answer = End (d .clock + 1);
+      desk =
+          record {
+            clock = d .clock + 1;
+            n = d .n;
+            m = d .m;
+            holders = d .holders;
+            sessions = set (d .sessions) s (withPhase (sessionAt d s) (Published (d .clock + 1)));
+          };
+    }
+
+unfoldable pub publishReply : Desk → ℕ → PublishReply
+publishReply d s = answered (publishFault d s) (publishRefused d) (published d s)

@@ -1,0 +1,18 @@
+// The volatile transaction table, its coherence, and the calls that take it without an image.
+mod abandon;
+mod begin;
+mod coherence;
+mod publish;
+mod state;
+
+pub use abandon::AbandonAnswer;
+pub use abandon::AbandonReply;
+pub use begin::BeginAnswer;
+pub use begin::BeginReply;
+pub use coherence::coherent;
+pub use publish::PublishAnswer;
+pub use publish::PublishReply;
+pub use state::Desk;
+pub use state::Phase;
+pub use state::RecordCopy;
+pub use state::Session;

@@ -1,0 +1,87 @@
+-- Tests and searches over the numbers below n, and their laws for a loop that counts up.
+use Prim.Native.Nat.{ℕ, zero, suc, _+_, _<_, _≤_}
+use mathlib.Core.Bool.{Bool, true, false, _&&_, _||_, and-false, or-true, cond}
+use mathlib.Core.Path.{_≡_, refl, sym, ap, _∙_, subst}
+use mathlib.Core.Logic.{⊎-elim}
+use native.Mathlib.Nat.{le-of-suc-le-suc, not-suc-le-zero, eq-or-lt-of-le}
+use native.Mathlib.Omega.{arith}
+use native.Mathlib.Numerals.{add-one}
+use lib.Dec.{ltb}
+use borrow.Author.Tests.{lt-ltb, le-ltb, ltb-true, ltb-false}
+
+-- p holds of every number below n
+unfoldable pub allBelow : ℕ → (ℕ → Bool) → Bool
+allBelow zero p = true
+allBelow (suc n) p = allBelow n p && p n
+
+-- p holds of some number below n
+unfoldable pub anyBelow : ℕ → (ℕ → Bool) → Bool
+anyBelow zero p = false
+anyBelow (suc n) p = anyBelow n p || p n
+
+-- how many numbers below n p holds of
+unfoldable pub countBelow : ℕ → (ℕ → Bool) → ℕ
+countBelow zero p = 0
+countBelow (suc n) p = countBelow n p + cond (p n) 1 0
+
+-- the lowest number below n that p holds of; n where it holds of none
+unfoldable pub lowest : ℕ → (ℕ → Bool) → ℕ
+lowest zero p = 0
+lowest (suc n) p = cond (ltb (lowest n p) n) (lowest n p) (cond (p n) n (suc n))
+
+module _ (p : ℕ → Bool) where
+  -- a turn that found nothing wrong
+  pub all-more : (i : ℕ) → allBelow i p ≡ true → p i ≡ true → allBelow (i + 1) p ≡ true
+  unfolding allBelow
+  all-more i h e = rw (add-one, h, e)
+
+  -- a turn that found something wrong
+  pub all-fails : (n i : ℕ) → i < n → p i ≡ false → allBelow n p ≡ false
+  unfolding allBelow
+  all-fails zero i l e = absurd (not-suc-le-zero l)
+  all-fails (suc n) i l e =
+      ⊎-elim
+      (λ q. rw (subst (λ (k : ℕ). p k ≡ false) q e) (and-false (allBelow n p)))
+      (λ lt. rw (all-fails n i lt e))
+      (eq-or-lt-of-le (le-of-suc-le-suc l))
+
+  pub any-more : (i : ℕ) → anyBelow i p ≡ false → p i ≡ false → anyBelow (i + 1) p ≡ false
+  unfolding anyBelow
+  any-more i h e = rw (add-one, h, e)
+
+  pub any-finds : (n i : ℕ) → i < n → p i ≡ true → anyBelow n p ≡ true
+  unfolding anyBelow
+  any-finds zero i l e = absurd (not-suc-le-zero l)
+  any-finds (suc n) i l e =
+      ⊎-elim
+      (λ q. rw (subst (λ (k : ℕ). p k ≡ true) q e) (or-true (anyBelow n p)))
+      (λ lt. rw (any-finds n i lt e))
+      (eq-or-lt-of-le (le-of-suc-le-suc l))
+
+  pub count-more : (i : ℕ) → countBelow (i + 1) p ≡ countBelow i p + cond (p i) 1 0
+  unfolding countBelow
+  count-more i = rw add-one
+
+  pub count-most : (n : ℕ) → countBelow n p ≤ n
+  unfolding countBelow
+  count-most zero = omega arith
+  count-most (suc n) = go (p n) (count-most n)
+    where
+      go : (b : Bool) → countBelow n p ≤ n → countBelow n p + cond b 1 0 ≤ suc n
+      go true h = omega arith
+      go false h = omega arith
+
+  -- a turn of a search that found nothing
+  pub lowest-more : (i : ℕ) → lowest i p ≡ i → p i ≡ false → lowest (i + 1) p ≡ i + 1
+  unfolding lowest
+  lowest-more i h e = rw (add-one, h, le-ltb i i (omega arith), e)
+
+  -- a turn of a search that found something
+  pub lowest-finds : (n i : ℕ) → i < n → lowest i p ≡ i → p i ≡ true → lowest n p ≡ i
+  unfolding lowest
+  lowest-finds zero i l h e = absurd (not-suc-le-zero l)
+  lowest-finds (suc n) i l h e =
+      ⊎-elim
+      (λ q. subst (λ (k : ℕ). lowest (suc k) p ≡ i) q (rw (h, le-ltb i i (omega arith), e)))
+      (λ lt. rw (lowest-finds n i lt h e, lt-ltb i n lt))
+      (eq-or-lt-of-le (le-of-suc-le-suc l))

@@ -1,0 +1,10 @@
+pub mod Below
+pub mod Checks
+pub mod Image
+pub mod Entries
+pub mod Crash
+pub mod Log
+pub mod Oldest
+pub mod Trace
+pub mod Lay
+pub mod Told

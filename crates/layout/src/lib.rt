@@ -1,0 +1,21 @@
+// The image: where its parts lie, reading and laying it, and storing to it with a trace of every store.
+// `lay` is a call that users make. `index`, `scan` and `trace` are for the crates above alone: their functions say what they need.
+mod image;
+mod index;
+mod laying;
+mod scan;
+mod trace;
+
+pub use image::shaped;
+pub use image::word;
+pub use index::home_at;
+pub use index::home_words;
+pub use index::slot_at;
+pub use index::slot_word;
+pub use laying::LayAnswer;
+pub use laying::lay;
+pub use scan::Oldest;
+pub use scan::occupied;
+pub use scan::oldest_log;
+pub use trace::put_fence;
+pub use trace::put_store;

@@ -1,0 +1,9 @@
+pub mod Session
+pub mod Open
+pub mod Read
+pub mod Write
+pub mod Finish
+pub mod Settle
+pub mod Reclaim
+pub mod Recover
+pub mod Told

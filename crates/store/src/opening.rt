@@ -1,0 +1,73 @@
+// Opening an image: it gives a fresh desk.
+ghost use mathlib.Core.Path.{_≡_};
+ghost use Rattle.store.specs.Open.{openFault, openReply, freshDesk};
+use desk::Desk;
+use desk::Phase;
+use desk::RecordCopy;
+use desk::Session;
+
+pub enum OpenAnswer {
+    Refused(u64),
+    Ok,
+}
+
+pub struct OpenReply {
+    pub answer: OpenAnswer,
+    pub desk: Desk,
+}
+
+fn fresh(clock: u64, n: u64, m: u64) -> Desk
+    ensures { λ r. ⌜ r ≡ freshDesk clock n m ⌝ }
+{
+    let none = RecordCopy {
+        rec: 0,
+        words: [0; 4],
+    };
+    let idle = Session {
+        phase: Phase::Idle,
+        count: 0,
+        slot: 0,
+        copies: [none; 4],
+    };
+    Desk {
+        clock: clock,
+        n: n,
+        m: m,
+        holders: [0; 256],
+        sessions: [idle; 16],
+    }
+}
+
+fn open_fault(image: &[u64]) -> u64
+    ensures { λ r. ⌜ r ≡ openFault (now (image .entry)) ⌝ }
+{
+    if !layout::shaped(image) {
+        return 1;
+    }
+    let n = layout::word(image, 1);
+    let m = layout::word(image, 2);
+    if layout::occupied(image, n, 2 * m) {
+        11
+    } else {
+        0
+    }
+}
+
+// Opens an image with all slots empty: a desk with clock 1, all idle.
+pub fn open(image: &[u64]) -> OpenReply
+    ensures { λ r. ⌜ r ≡ openReply (now (image .entry)) ⌝ }
+{
+    let fault = open_fault(image);
+    if fault != 0 {
+        return OpenReply {
+            answer: OpenAnswer::Refused(fault),
+            desk: fresh(0, 0, 0),
+        };
+    }
+    let n = layout::word(image, 1);
+    let m = layout::word(image, 2);
+    OpenReply {
+        answer: OpenAnswer::Ok,
+        desk: fresh(1, n, m),
+    }
+}
