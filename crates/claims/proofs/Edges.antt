@@ -4,7 +4,7 @@ use Rattle.layout.specs.Below.{allBelow, anyBelow, countBelow, lowest}
 use Rattle.layout.specs.Checks.{first, commonFault, answered}
 use Rattle.layout.specs.Image.{shapedB, occupiedB}
 use Rattle.layout.specs.Lay.{layFault, layAnswer}
-use Rattle.layout.specs.Log.{denotedBy, unsoundB, sharedB}
+use Rattle.layout.specs.Log.{homesWrites, bodyWrites, unsoundB, sharedB}
 use Rattle.layout.specs.Oldest.{oldestOf}
 use Rattle.desk.specs.Desk.{unmarked}
 use Rattle.desk.specs.Coherent.{freshB, placesOk, sessionOk, copiesB, coherentB}
@@ -12,13 +12,13 @@ use Rattle.store.specs.Session.{matchesB, imageFault}
 use Rattle.store.specs.Open.{openFault, openReply}
 use Rattle.store.specs.Read.{readFault, readReply}
 use Rattle.store.specs.Write.{copyFault, writeFault, writeRefused, writeReply}
-use Rattle.store.specs.Finish.{finishFault, copiesEntries, finishEntries, finishReply}
+use Rattle.store.specs.Finish.{finishFault, finishEntries, finishReply}
 use Rattle.store.specs.Reclaim.{reclaimFault, reclaimReply}
 use Rattle.store.specs.Recover.{unsoundPlace, tiedBelow, tiesB, recoverFault, firstLog, recoverRefused, recoverReply}
 use Rattle.claims.specs.Edges.{Edges}
 
 pub edges : Edges
-unfolding allBelow anyBelow countBelow lowest first commonFault answered shapedB occupiedB layFault layAnswer denotedBy unsoundB sharedB oldestOf unmarked freshB placesOk sessionOk copiesB coherentB matchesB imageFault openFault openReply readFault readReply copyFault writeFault writeRefused writeReply finishFault copiesEntries finishEntries finishReply reclaimFault reclaimReply unsoundPlace tiedBelow tiesB recoverFault firstLog recoverRefused recoverReply
+unfolding allBelow anyBelow countBelow lowest first commonFault answered shapedB occupiedB layFault layAnswer homesWrites bodyWrites unsoundB sharedB oldestOf unmarked freshB placesOk sessionOk copiesB coherentB matchesB imageFault openFault openReply readFault readReply copyFault writeFault writeRefused writeReply finishFault finishEntries finishReply reclaimFault reclaimReply unsoundPlace tiedBelow tiesB recoverFault firstLog recoverRefused recoverReply
 edges =
     record {
       a-lay = refl;

@@ -3,15 +3,15 @@ use Prim.Native.Nat.{ℕ, _+_, _-_}
 use mathlib.Core.Bool.{true}
 use mathlib.Core.Path.{_≡_}
 use mathlib.Core.List.{List, [], _∷_, _++_}
-use lib.ListN.{getD, set, replicate, take}
+use lib.ListN.{set, replicate, take}
 use Rattle.layout.specs.Crash.{crashed}
-use Rattle.layout.specs.Image.{slotAt, homeAt}
+use Rattle.layout.specs.Image.{slotAt}
 use Rattle.layout.specs.Lay.{emptyImage, layAnswer}
-use Rattle.layout.specs.Told.{Told, refusal, result, layTold}
+use Rattle.layout.specs.Told.{refusal, result, layTold}
 use Rattle.desk.specs.Desk.{zeroCopy, idleSession}
 use Rattle.desk.specs.Coherent.{limit}
 use Rattle.desk.specs.declared.state.Phase.{Phase}
-use Rattle.desk.specs.declared.state.Phase.the-variants.{Idle, Active, Sealed, Published}
+use Rattle.desk.specs.declared.state.Phase.the-variants.{Active, Published}
 use Rattle.desk.specs.declared.state.RecordCopy.{RecordCopy}
 use Rattle.desk.specs.declared.state.Session.{Session}
 use Rattle.desk.specs.declared.state.Desk.{Desk}

@@ -1,6 +1,6 @@
 -- What a coherent desk is, as plain facts, and that `coherentB` is true just there.
 use Prim.Native.Nat.{ℕ, _+_, _<_, _≤_}
-use mathlib.Core.Bool.{Bool, true}
+use mathlib.Core.Bool.{true}
 use mathlib.Core.Path.{_≡_, refl}
 use mathlib.Core.Logic.{_⊎_}
 use Rattle.layout.specs.Below.{allBelow, countBelow}

@@ -1,2 +1,4 @@
 pub mod Facts
 pub mod Sizes
+pub mod Struck
+pub mod Walk

@@ -1,6 +1,4 @@
-use Prim.Native.Nat.{ℕ, _≤_, _+_}
-use mathlib.Core.Bool.{true}
-use mathlib.Core.Path.{_≡_}
+use Prim.Native.Nat.{_≤_, _+_}
 use Rattle.desk.specs.declared.state.Desk.{Desk}
 use Rattle.desk.specs.Coherent.{limit}
 use Rattle.desk.specs.Strike.{sizesT}

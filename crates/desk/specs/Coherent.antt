@@ -1,6 +1,6 @@
 -- Coherence (document 01, "The desk"), one small test for each of its rules.
 use Prim.Native.Nat.{ℕ, _+_, _^_}
-use mathlib.Core.Bool.{Bool, true, false, not, _&&_, _||_, cond, Bool·beq}
+use mathlib.Core.Bool.{Bool, true, not, _&&_, _||_, cond, Bool·beq}
 use lib.ListN.{getD}
 use lib.Dec.{leb, ltb, eqb}
 use Rattle.layout.specs.Below.{allBelow, anyBelow, countBelow}

@@ -1,7 +1,7 @@
 -- The parts of a desk, and the desk with one part changed.
 use Prim.Native.Nat.{ℕ, zero, suc}
 use mathlib.Core.Bool.{Bool, true, false}
-use mathlib.Core.List.{List, [], _∷_}
+use mathlib.Core.List.{List, []}
 use lib.ListN.{getD, set, replicate}
 use Rattle.desk.specs.declared.state.Phase.{Phase}
 use Rattle.desk.specs.declared.state.Phase.the-variants.{Idle, Active, Sealed, Published}
@@ -19,6 +19,13 @@ noSession = record { phase = Idle; count = 0; slot = 0; copies = [] }
 -- copy place j of a session
 abbrev pub copyAt : Session → ℕ → RecordCopy
 copyAt e j = getD (e .copies) j noCopy
+
+-- the record number and the words of copy place j
+abbrev pub copiedRec : Session → ℕ → ℕ
+copiedRec e j = copyAt e j .rec
+
+abbrev pub copiedWords : Session → ℕ → List ℕ
+copiedWords e j = copyAt e j .words
 
 -- session entry s
 abbrev pub sessionAt : Desk → ℕ → Session

@@ -1,13 +1,12 @@
 -- What the code goes by: each copy's mark is struck out of a copy of the holders, and nothing may be left.
 use Prim.Native.Nat.{ℕ, zero, suc, _+_}
-use mathlib.Core.Bool.{Bool, true, false, not, _&&_, _||_, cond}
-use mathlib.Core.List.{List, [], _∷_}
+use mathlib.Core.Bool.{Bool, true, not, _&&_, _||_, cond}
+use mathlib.Core.List.{List}
 use lib.ListN.{getD, set}
 use lib.Dec.{leb, ltb, eqb}
 use Rattle.layout.specs.Below.{allBelow, countBelow}
 use Rattle.desk.specs.Desk.{copyAt, sessionAt, isIdle}
 use Rattle.desk.specs.Coherent.{sealedAt, countOk, numberOk, slotOk, zeroCopyB, limit}
-use Rattle.desk.specs.declared.state.Phase.{Phase}
 use Rattle.desk.specs.declared.state.RecordCopy.{RecordCopy}
 use Rattle.desk.specs.declared.state.Session.{Session}
 use Rattle.desk.specs.declared.state.Desk.{Desk}
@@ -23,31 +22,26 @@ unfoldable pub placeT : List ℕ → ℕ → ℕ → ℕ → RecordCopy → ℕ 
 placeT h n count j c mark =
     cond (ltb j count) ((ltb (c .rec) n && ltb (c .rec) 256) && eqb (getD h (c .rec) 0) mark) (zeroCopyB c)
 
--- the holders after the first places of a session
-abbrev pub after1 : List ℕ → ℕ → Session → List ℕ
-after1 h n e = struck h n (e .count) 0 (copyAt e 0)
+-- the holders after the places below j of a session
+unfoldable pub struckPlaces : List ℕ → ℕ → Session → ℕ → List ℕ
+struckPlaces h n e zero = h
+struckPlaces h n e (suc j) = struck (struckPlaces h n e j) n (e .count) j (copyAt e j)
 
-abbrev pub after2 : List ℕ → ℕ → Session → List ℕ
-after2 h n e = struck (after1 h n e) n (e .count) 1 (copyAt e 1)
-
-abbrev pub after3 : List ℕ → ℕ → Session → List ℕ
-after3 h n e = struck (after2 h n e) n (e .count) 2 (copyAt e 2)
-
-unfoldable pub after4 : List ℕ → ℕ → Session → List ℕ
-after4 h n e = struck (after3 h n e) n (e .count) 3 (copyAt e 3)
+-- place j of a session, the places below it struck
+abbrev pub placeAt : List ℕ → ℕ → Session → ℕ → ℕ → Bool
+placeAt h n e mark j = placeT (struckPlaces h n e j) n (e .count) j (copyAt e j) mark
 
 unfoldable pub sessionT : List ℕ → ℕ → ℕ → Session → ℕ → Bool
 sessionT h clock n e mark =
     countOk (e .phase) (e .count) && numberOk (e .phase) clock && slotOk (e .count) (e .slot)
-    && placeT h n (e .count) 0 (copyAt e 0) mark && placeT (after1 h n e) n (e .count) 1 (copyAt e 1) mark
-    && placeT (after2 h n e) n (e .count) 2 (copyAt e 2) mark && placeT (after3 h n e) n (e .count) 3 (copyAt e 3) mark
+    && placeAt h n e mark 0 && placeAt h n e mark 1 && placeAt h n e mark 2 && placeAt h n e mark 3
 
 -- session s where it is not idle
 unfoldable pub busyT : List ℕ → ℕ → ℕ → ℕ → ℕ → Session → Bool
 busyT h clock n m s e = cond (isIdle (e .phase)) true (sessionT h clock n e (s + 1) && ltb s m)
 
 unfoldable pub busyH : List ℕ → ℕ → Session → List ℕ
-busyH h n e = cond (isIdle (e .phase)) h (after4 h n e)
+busyH h n e = cond (isIdle (e .phase)) h (struckPlaces h n e 4)
 
 -- the holders with the copies of the sessions below s struck out
 unfoldable pub struckTo : Desk → ℕ → List ℕ

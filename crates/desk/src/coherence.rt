@@ -4,8 +4,8 @@ ghost use mathlib.Core.Bool.{true, not, _||_, cond};
 ghost use lib.ListN.{getD};
 ghost use Rattle.layout.specs.Below.{allBelow};
 ghost use Rattle.desk.specs.Desk.{isIdle, isSealed};
-ghost use Rattle.desk.specs.Coherent.{countOk, numberOk, slotOk, zeroCopyB};
-ghost use Rattle.desk.specs.Strike.{struck, placeT, after4, sessionT, busyT, busyH, quietB, zeroAt, soundB};
+ghost use Rattle.desk.specs.Coherent.{countOk, numberOk, slotOk, zeroCopyB, coherentB};
+ghost use Rattle.desk.specs.Strike.{struck, placeT, struckPlaces, sessionT, busyT, busyH, quietB, zeroAt};
 use crate::state::Desk;
 use crate::state::Phase;
 use crate::state::RecordCopy;
@@ -88,7 +88,7 @@ fn place(h: &mut [u8; 256], n: u64, count: u64, j: u64, c: RecordCopy, mark: u8)
 }
 
 fn session_ok(h: &mut [u8; 256], clock: u64, n: u64, e: Session, mark: u8) -> bool
-    ensures { λ r. ⌜ (r ≡ sessionT (now (h .entry)) clock n e mark) × (now (h .exit) ≡ after4 (now (h .entry)) n e) ⌝ }
+    ensures { λ r. ⌜ (r ≡ sessionT (now (h .entry)) clock n e mark) × (now (h .exit) ≡ struckPlaces (now (h .entry)) n e 4) ⌝ }
 {
     let p = e.phase;
     let count = e.count;
@@ -151,7 +151,7 @@ fn all_zero(h: &[u8; 256]) -> bool
 
 // Whether the desk is coherent.
 pub fn coherent(d: Desk) -> bool
-    ensures { λ r. ⌜ r ≡ soundB d ⌝ }
+    ensures { λ r. ⌜ r ≡ coherentB d ⌝ }
 {
     let clock = d.clock;
     let n = d.n;

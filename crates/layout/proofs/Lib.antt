@@ -1,2 +1,4 @@
 pub mod Says
 pub mod Shape
+pub mod Least
+pub mod Groups

@@ -1,7 +1,7 @@
 -- Tests and searches over the numbers below n, and their laws for a loop that counts up.
 use Prim.Native.Nat.{ℕ, zero, suc, _+_, _<_, _≤_}
 use mathlib.Core.Bool.{Bool, true, false, _&&_, _||_, and-false, or-true, cond}
-use mathlib.Core.Path.{_≡_, refl, sym, ap, _∙_, subst}
+use mathlib.Core.Path.{_≡_, refl, sym, subst}
 use mathlib.Core.Logic.{⊎-elim}
 use native.Mathlib.Nat.{le-of-suc-le-suc, not-suc-le-zero, eq-or-lt-of-le}
 use native.Mathlib.Omega.{arith}
@@ -85,3 +85,28 @@ module _ (p : ℕ → Bool) where
       (λ q. subst (λ (k : ℕ). lowest (suc k) p ≡ i) q (rw (h, le-ltb i i (omega arith), e)))
       (λ lt. rw (lowest-finds n i lt h e, lt-ltb i n lt))
       (eq-or-lt-of-le (le-of-suc-le-suc l))
+
+  pub lowest-most : (n : ℕ) → lowest n p ≤ n
+  unfolding lowest
+  lowest-most zero = omega arith
+  lowest-most (suc n) = go (ltb (lowest n p) n) (p n) (lowest-most n)
+    where
+      go : (b c : Bool) → lowest n p ≤ n → cond b (lowest n p) (cond c n (suc n)) ≤ suc n
+      go true c h = omega arith
+      go false true h = omega arith
+      go false false h = omega arith
+
+  -- what is passed over fails the test
+  pub lowest-none : (n : ℕ) → lowest n p ≡ n → (i : ℕ) → i < n → p i ≡ false
+  unfolding lowest
+  lowest-none zero e i l = absurd (not-suc-le-zero l)
+  lowest-none (suc n) e i l = go (ltb (lowest n p) n) refl (p n) refl e (λ h lt. lowest-none n h i lt)
+    where
+      go : (b : Bool) → ltb (lowest n p) n ≡ b → (c : Bool) → p n ≡ c → cond b (lowest n p) (cond c n (suc n)) ≡ suc n → (lowest n p ≡ n → i < n → p i ≡ false) → p i ≡ false
+      go true x c y h f = absurd (let z : lowest n p < n = ltb-true _ _ x in omega arith)
+      go false x true y h f = absurd (omega arith)
+      go false x false y h f =
+          ⊎-elim
+          (λ q. subst (λ (k : ℕ). p k ≡ false) (sym q) y)
+          (f (let z : n ≤ lowest n p = ltb-false _ _ x in omega (arith, lowest-most n)))
+          (eq-or-lt-of-le (le-of-suc-le-suc l))

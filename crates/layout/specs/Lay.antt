@@ -1,6 +1,6 @@
 -- Lay (document 01): an empty image, zero records and zero slots. It checks 14 before 1, and then the length alone.
 use Prim.Native.Nat.{ℕ, _+_, _*_}
-use mathlib.Core.List.{List, [], _∷_}
+use mathlib.Core.List.{List, _∷_}
 use lib.ListN.{length, replicate}
 use lib.Dec.{eqb}
 use Rattle.layout.specs.Checks.{unless, first, answered}

@@ -1,13 +1,13 @@
 -- The form of a log, and what it denotes. Nothing outside this file knows the form. A log is read by the words of its slot, as a function of
 -- their place: word 0 the persist number, word 1 the count of copies, then 4 places of 5 words, record number and record words.
 use Prim.Native.Nat.{ℕ, zero, suc, _+_, _*_}
-use mathlib.Core.Bool.{Bool, _&&_, _||_, not, cond}
+use mathlib.Core.Bool.{Bool, _&&_, _||_, not}
 use mathlib.Core.List.{List, [], _∷_, _++_}
 use lib.ListN.{getD}
 use lib.Dec.{leb, ltb, eqb}
 use Rattle.layout.specs.Below.{anyBelow}
-use Rattle.layout.specs.Image.{homeAt, slotWord, persistAt}
-use Rattle.layout.specs.Entries.{Write}
+use Rattle.layout.specs.Image.{homeAt}
+use Rattle.layout.specs.Entries.{Entry, store, fence, Write, stores}
 
 -- the words of a slot, by their place in it
 abbrev pub Slot : Type 0
@@ -27,14 +27,28 @@ wordsOf f j = f (2 + 5 * j + 1) ∷ f (2 + 5 * j + 2) ∷ f (2 + 5 * j + 3) ∷ 
 abbrev pub homeWrites : ℕ → List ℕ → List Write
 homeWrites r ws = (homeAt r, getD ws 0 0) ∷ (homeAt r + 1, getD ws 1 0) ∷ (homeAt r + 2, getD ws 2 0) ∷ (homeAt r + 3, getD ws 3 0) ∷ []
 
--- what the first k places denote: home-word writes, in the order of the places
-unfoldable pub denotedBy : Slot → ℕ → List Write
-denotedBy f zero = []
-denotedBy f (suc k) = denotedBy f k ++ homeWrites (recOf f k) (wordsOf f k)
+-- the writes of k records to their homes, in order
+unfoldable pub homesWrites : (ℕ → ℕ) → (ℕ → List ℕ) → ℕ → List Write
+homesWrites rec words zero = []
+homesWrites rec words (suc k) = homesWrites rec words k ++ homeWrites (rec k) (words k)
 
--- what a log denotes; places past the count denote nothing
+-- what a log denotes: home-word writes, in the order of its places; places past the count denote nothing
 abbrev pub denoted : Slot → List Write
-denoted f = denotedBy f (countOf f)
+denoted f = homesWrites (recOf f) (wordsOf f) (countOf f)
+
+-- the five words of place j, by their places in the slot: record number, record words
+abbrev pub placeWrites : ℕ → ℕ → List ℕ → List Write
+placeWrites j r ws =
+    (2 + 5 * j, r) ∷ (2 + 5 * j + 1, getD ws 0 0) ∷ (2 + 5 * j + 2, getD ws 1 0) ∷ (2 + 5 * j + 3, getD ws 2 0) ∷ (2 + 5 * j + 4, getD ws 3 0) ∷ []
+
+-- the body of a log with `count` copies: the count, and the first k of them
+unfoldable pub bodyWrites : (ℕ → ℕ) → (ℕ → List ℕ) → ℕ → ℕ → List Write
+bodyWrites rec words count zero = (1, count) ∷ []
+bodyWrites rec words count (suc k) = bodyWrites rec words count k ++ placeWrites k (rec k) (words k)
+
+-- a log, by places in its slot: its body, a fence, the persist number, a fence
+abbrev pub logEntries : ℕ → (ℕ → ℕ) → (ℕ → List ℕ) → ℕ → List Entry
+logEntries persist rec words count = stores (bodyWrites rec words count count) ++ (fence ∷ store 0 persist ∷ fence ∷ [])
 
 -- place j is in use, and has a record at or above n or one that an earlier place has
 abbrev pub badPlace : ℕ → Slot → ℕ → Bool

@@ -1,6 +1,6 @@
 -- The oldest log: of some slots, the occupied one with the smallest persist number, the lowest place first among equals.
 use Prim.Native.Nat.{ℕ, zero, suc}
-use mathlib.Core.Bool.{Bool, not, _&&_, _||_, cond}
+use mathlib.Core.Bool.{not, _&&_, _||_, cond}
 use lib.Dec.{ltb, eqb}
 use Rattle.layout.specs.declared.scan.Oldest.{Oldest}
 

@@ -1,11 +1,13 @@
 // The image: where its parts lie, reading and laying it, and storing to it with a trace of every store.
 // `lay` is a call that users make. `index`, `scan` and `trace` are for the crates above alone: their functions say what they need.
+mod checks;
 mod image;
 mod index;
 mod laying;
 mod scan;
 mod trace;
 
+pub use checks::common_fault;
 pub use image::shaped;
 pub use image::word;
 pub use index::home_at;

@@ -1,18 +1,18 @@
 -- Finish (document 01): active only. Without copies the session is idle and the answer is "empty", no stores. With c copies the list is count
 -- and copies, a fence, the persist number, a fence: 5c + 4 entries. The persist number is the clock. The session is sealed.
 -- Checks 1, 2, 3, 4, 6, 10.
-use Prim.Native.Nat.{ℕ, zero, suc, _+_, _*_}
-use mathlib.Core.Bool.{Bool, _||_, cond}
-use mathlib.Core.List.{List, [], _∷_, _++_}
-use lib.ListN.{length, getD}
+use Prim.Native.Nat.{ℕ, _+_}
+use mathlib.Core.Bool.{_||_, cond}
+use mathlib.Core.List.{List, []}
+use lib.ListN.{length}
 use lib.Dec.{ltb, eqb}
 use Rattle.layout.specs.Checks.{unless, first, answered}
-use Rattle.layout.specs.Entries.{Entry, store, fence, shift}
+use Rattle.layout.specs.Entries.{Entry, shift}
+use Rattle.layout.specs.Log.{logEntries}
 use Rattle.layout.specs.Image.{placeOf, slotAt}
-use Rattle.desk.specs.Desk.{noCopy, sessionAt, isActive, idleSession, withPhase, putSession}
+use Rattle.desk.specs.Desk.{copiedRec, copiedWords, sessionAt, isActive, idleSession, withPhase, putSession}
 use Rattle.desk.specs.Coherent.{limit}
 use Rattle.desk.specs.declared.state.Phase.the-variants.{Sealed}
-use Rattle.desk.specs.declared.state.RecordCopy.{RecordCopy}
 use Rattle.desk.specs.declared.state.Desk.{Desk}
 use Rattle.store.specs.Session.{imageFault, roomFor}
 use Rattle.store.specs.declared.finishing.FinishAnswer.the-variants.{Refused, Empty, Sealed as SealedAt}
@@ -24,29 +24,11 @@ finishFault img d len s =
     first (imageFault img d (roomFor len) s)
     (first (unless (isActive (sessionAt d s .phase)) 6) (unless (eqb (sessionAt d s .count) 0 || ltb (d .clock) limit) 10))
 
--- a copy's five words at place j of the slot: record number, record words
-abbrev pub copyEntries : ℕ → RecordCopy → List Entry
-copyEntries j c =
-    store (2 + 5 * j) (c .rec)
-    ∷ store (2 + 5 * j + 1) (getD (c .words) 0 0)
-    ∷ store (2 + 5 * j + 2) (getD (c .words) 1 0)
-    ∷ store (2 + 5 * j + 3) (getD (c .words) 2 0)
-    ∷ store (2 + 5 * j + 4) (getD (c .words) 3 0)
-    ∷ []
-
--- the first k copies, in the order of their first writes
-unfoldable pub copiesEntries : ℕ → List RecordCopy → List Entry
-copiesEntries zero cs = []
-copiesEntries (suc k) cs = copiesEntries k cs ++ copyEntries k (getD cs k noCopy)
-
--- a log, with indexes in its slot
-abbrev pub logEntries : ℕ → ℕ → List RecordCopy → List Entry
-logEntries persist count cs = store 1 count ∷ copiesEntries count cs ++ (fence ∷ store 0 persist ∷ fence ∷ [])
-
 -- the log of session s, in the slot reserved for it
 abbrev pub sealEntries : Desk → ℕ → List Entry
 sealEntries d s =
-    shift (slotAt (d .n) (placeOf s (sessionAt d s .slot))) (logEntries (d .clock) (sessionAt d s .count) (sessionAt d s .copies))
+    shift (slotAt (d .n) (placeOf s (sessionAt d s .slot)))
+    (logEntries (d .clock) (copiedRec (sessionAt d s)) (copiedWords (sessionAt d s)) (sessionAt d s .count))
 
 unfoldable pub finishEntries : List ℕ → Desk → ℕ → ℕ → List Entry
 finishEntries img d len s =

@@ -1,16 +1,13 @@
 -- What the calls that take an image ask of it, of the desk and of the session.
-use Prim.Native.Nat.{ℕ, _+_, _-_}
-use mathlib.Core.Bool.{Bool, false, _&&_, not}
+use Prim.Native.Nat.{ℕ}
+use mathlib.Core.Bool.{Bool, _&&_}
 use mathlib.Core.List.{List}
 use lib.ListN.{replicate}
 use lib.Dec.{leb, ltb, eqb}
 use Rattle.layout.specs.Below.{lowest}
 use Rattle.layout.specs.Checks.{commonFault}
 use Rattle.layout.specs.Image.{recordsOf, sessionsOf, shapedB}
-use Rattle.desk.specs.Desk.{sessionAt, markAt}
 use Rattle.desk.specs.Coherent.{coherentB, placeHas}
-use Rattle.desk.specs.declared.state.Phase.{Phase}
-use Rattle.desk.specs.declared.state.Phase.the-variants.{Idle, Active, Sealed, Published}
 use Rattle.desk.specs.declared.state.Session.{Session}
 use Rattle.desk.specs.declared.state.Desk.{Desk}
 

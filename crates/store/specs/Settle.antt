@@ -1,19 +1,18 @@
 -- Settle (document 01): published only. If an active session has a start below this end, the answer is "wait" with the lowest such session,
 -- no stores. Otherwise the copies go home and a fence follows: 4c + 1 entries. Marks and copies are dropped; the session is idle; the slot
 -- stays occupied. Checks 1, 2, 3, 4, 6.
-use Prim.Native.Nat.{ℕ, zero, suc}
+use Prim.Native.Nat.{ℕ}
 use mathlib.Core.Bool.{Bool, false, cond}
 use mathlib.Core.List.{List, [], _∷_, _++_}
-use lib.ListN.{length, getD}
+use lib.ListN.{length}
 use lib.Dec.{ltb}
 use Rattle.layout.specs.Below.{lowest}
 use Rattle.layout.specs.Checks.{unless, first, answered}
-use Rattle.layout.specs.Entries.{Entry, fence, Write, stores}
-use Rattle.layout.specs.Log.{homeWrites}
-use Rattle.desk.specs.Desk.{noCopy, sessionAt, isPublished, dropped}
+use Rattle.layout.specs.Entries.{Entry, fence, stores}
+use Rattle.layout.specs.Log.{homesWrites}
+use Rattle.desk.specs.Desk.{copiedRec, copiedWords, sessionAt, isPublished, dropped}
 use Rattle.desk.specs.declared.state.Phase.{Phase}
 use Rattle.desk.specs.declared.state.Phase.the-variants.{Idle, Active, Sealed, Published}
-use Rattle.desk.specs.declared.state.RecordCopy.{RecordCopy}
 use Rattle.desk.specs.declared.state.Desk.{Desk}
 use Rattle.store.specs.Session.{imageFault, roomFor}
 use Rattle.store.specs.declared.settling.SettleAnswer.the-variants.{Refused, Wait, Ok}
@@ -40,13 +39,10 @@ startsBelow end (Published e) = false
 unfoldable pub waitsFor : Desk → ℕ → ℕ
 waitsFor d end = lowest 16 (λ t. startsBelow end (sessionAt d t .phase))
 
--- what the first k copies write to their home records
-unfoldable pub copiesWrites : ℕ → List RecordCopy → List Write
-copiesWrites zero cs = []
-copiesWrites (suc k) cs = copiesWrites k cs ++ homeWrites (getD cs k noCopy .rec) (getD cs k noCopy .words)
-
+-- the copies go home, and a fence
 abbrev pub goHomeEntries : Desk → ℕ → List Entry
-goHomeEntries d s = stores (copiesWrites (sessionAt d s .count) (sessionAt d s .copies)) ++ (fence ∷ [])
+goHomeEntries d s =
+    stores (homesWrites (copiedRec (sessionAt d s)) (copiedWords (sessionAt d s)) (sessionAt d s .count)) ++ (fence ∷ [])
 
 abbrev pub waitsB : Desk → ℕ → Bool
 waitsB d s = ltb (waitsFor d (endOf (sessionAt d s .phase))) 16

@@ -1,7 +1,7 @@
 -- Write of four words (document 01): active only. An own copy is overwritten. Otherwise the record is marked and copied. At the first copy the
 -- lowest empty slot of the session is reserved. Checks 1, 2, 4, 5, 6, 7, 8, 9; 7 leaves the caller idle with its marks and copies dropped.
 use Prim.Native.Nat.{ℕ, _+_, _-_}
-use mathlib.Core.Bool.{Bool, true, false, _&&_, _||_, not, cond}
+use mathlib.Core.Bool.{Bool, true, _||_, not, cond}
 use mathlib.Core.List.{List}
 use lib.ListN.{set}
 use lib.Dec.{leb, ltb, eqb}
@@ -9,7 +9,6 @@ use Rattle.layout.specs.Below.{lowest}
 use Rattle.layout.specs.Checks.{unless, first, answered}
 use Rattle.layout.specs.Image.{placeOf, persistAt}
 use Rattle.desk.specs.Desk.{sessionAt, markAt, isActive, putSession, dropped}
-use Rattle.desk.specs.declared.state.RecordCopy.{RecordCopy}
 use Rattle.desk.specs.declared.state.Session.{Session}
 use Rattle.desk.specs.declared.state.Desk.{Desk}
 use Rattle.store.specs.Session.{imageFault, ownPlace}

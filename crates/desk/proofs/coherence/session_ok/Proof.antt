@@ -1,4 +1,4 @@
-use Rattle.desk.specs.Strike.{after4, sessionT}
+use Rattle.desk.specs.Strike.{struckPlaces, sessionT}
 use borrow.Author.Needs.{needs}
 use Rattle.desk.proofs.coherence.session_ok.Statement.{statement}
 use Rattle.desk.proofs.coherence.session_ok.Tie as tie
@@ -37,8 +37,15 @@ place-requires-4 : tie.Need-place-requires-4
 place-requires-4 c κs = search needs
 
 returns : tie.Need-returns
-unfolding sessionT after4
-returns c = (rw ((c .before .before .before .before .before .before .before .before .before .before) .count-ok .ensures, (c .before .before .before .before .before .before .before .before .before) .number-ok .ensures, (c .before .before .before .before .before .before .before .before) .slot-ok .ensures, (c .before .before .before .before .before .before) .place .ensures .0, (c .before .before .before .before) .place2 .ensures .0, (c .before .before) .place3 .ensures .0, c .place4 .ensures .0, (c .before .before) .place3 .ensures .1, (c .before .before .before .before) .place2 .ensures .1, (c .before .before .before .before .before .before) .place .ensures .1), rw (c .place4 .ensures .1, (c .before .before) .place3 .ensures .1, (c .before .before .before .before) .place2 .ensures .1, (c .before .before .before .before .before .before) .place .ensures .1))
+unfolding sessionT struckPlaces
+returns c =
+    let c3 = c .before .before in
+    let c2 = c3 .before .before in
+    let c1 = c2 .before .before in
+    let c0 = c1 .before .before in (
+      rw (c0 .before .before .count-ok .ensures, c0 .before .number-ok .ensures, c0 .slot-ok .ensures, c1 .place .ensures .0, c2 .place2 .ensures .0, c3 .place3 .ensures .0, c .place4 .ensures .0, c3 .place3 .ensures .1, c2 .place2 .ensures .1, c1 .place .ensures .1),
+      rw (c .place4 .ensures .1, c3 .place3 .ensures .1, c2 .place2 .ensures .1, c1 .place .ensures .1),
+    )
 
 pub session-ok-spec : {M : Type 1} → statement M
 session-ok-spec =
