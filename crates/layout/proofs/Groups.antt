@@ -1,7 +1,7 @@
 -- Fence groups: when no index of a list of stores appears twice.
 use Prim.Native.Nat.{ℕ, zero, suc, _+_, _*_, _≤_, _<_}
-use mathlib.Core.Bool.{Bool, true, false, not, _&&_}
-use mathlib.Core.Path.{_≡_, refl, sym, ap, _∙_}
+use mathlib.Core.Bool.{true, not}
+use mathlib.Core.Path.{_≡_, refl, sym, ap}
 use mathlib.Core.List.{List, [], _∷_, _++_}
 use mathlib.Core.Logic.{_⊎_, inl, inr, ⊎-elim}
 use native.Mathlib.Omega.{arith}
@@ -12,7 +12,7 @@ use borrow.Author.Tests.{eqb-true, eqb-false, eq-eqb, ne-eqb}
 use Rattle.layout.specs.Entries.{Entry, store, fence, Write, stores, shift, notAgain, once, endsFenced}
 use Rattle.layout.specs.Image.{homeAt}
 use Rattle.layout.specs.Log.{homeWrites, homesWrites, placeWrites, bodyWrites, logEntries}
-use Rattle.layout.proofs.Says.{test, by-test}
+use Rattle.layout.proofs.Says.{by-test}
 
 -- index i is not among the writes, and no index is there twice
 abbrev pub Absent : ℕ → List Write → Type 0
@@ -171,3 +171,22 @@ ends-shift base (store i w ∷ store j v ∷ es) = ends-shift base (store j v �
 ends-shift base (store i w ∷ fence ∷ es) = ends-shift base (fence ∷ es)
 ends-shift base (fence ∷ store j v ∷ es) = ends-shift base (store j v ∷ es)
 ends-shift base (fence ∷ fence ∷ es) = ends-shift base (fence ∷ es)
+
+-- ---- a log
+
+pub log-length : (persist : ℕ) (rec : ℕ → ℕ) (words : ℕ → List ℕ) (count : ℕ) → length (logEntries persist rec words count) ≡ 5 * count + 4
+log-length persist rec words count =
+    omega (
+      arith,
+      length-append (stores (bodyWrites rec words count count)) (fence ∷ store 0 persist ∷ fence ∷ []),
+      length-stores (bodyWrites rec words count count),
+      length-body rec words count count,
+    )
+
+pub log-once : (persist : ℕ) (rec : ℕ → ℕ) (words : ℕ → List ℕ) (count : ℕ) → once (logEntries persist rec words count) ≡ true
+log-once persist rec words count =
+    once-group (bodyWrites rec words count count) (store 0 persist ∷ fence ∷ [])
+    (ascending-distinct 1 (2 + 5 * count) (bodyWrites rec words count count) (body-ascending rec words count count)) refl
+
+pub log-ends : (persist : ℕ) (rec : ℕ → ℕ) (words : ℕ → List ℕ) (count : ℕ) → endsFenced (logEntries persist rec words count) ≡ true
+log-ends persist rec words count = ends-append (stores (bodyWrites rec words count count)) fence (store 0 persist ∷ fence ∷ []) refl

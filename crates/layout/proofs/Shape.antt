@@ -5,7 +5,7 @@ use mathlib.Core.List.{List}
 use lib.ListN.{length}
 use lib.Dec.{eqb}
 use borrow.Author.Tests.{eqb-true}
-use Rattle.layout.specs.Checks.{unless, first, unless-zero, first-both}
+use Rattle.layout.specs.Checks.{unless, unless-zero, first-both}
 use Rattle.layout.specs.Lay.{layFault}
 use Rattle.layout.specs.Image.{word, recordsOf, sessionsOf, inRange, sizeOf, shapedB}
 use Rattle.layout.proofs.Says.{Says, says-le, says-eq, says-and, says-by}

@@ -7,3 +7,4 @@ pub mod Settle
 pub mod Reclaim
 pub mod Recover
 pub mod Told
+pub mod Lists

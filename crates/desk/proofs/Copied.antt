@@ -1,0 +1,29 @@
+-- What coherence says of a session's copies.
+use Prim.Native.Nat.{ℕ, _<_, _≤_}
+use mathlib.Core.Path.{_≡_}
+use native.Mathlib.Omega.{arith}
+use Rattle.layout.proofs.Groups.{Differ}
+use Rattle.desk.specs.declared.state.Desk.{Desk}
+use Rattle.desk.specs.declared.state.Phase.{Phase}
+use Rattle.desk.specs.declared.state.Phase.the-variants.{Idle, Active, Sealed, Published}
+use Rattle.desk.specs.Desk.{copiedRec, sessionAt}
+use Rattle.desk.proofs.Facts.{CountIn, Coherent}
+
+count-four : (p : Phase) (k : ℕ) → CountIn p k → k ≤ 4
+count-four Idle k h = omega arith
+count-four (Active b) k h = h
+count-four (Sealed p) k h = h .1
+count-four (Published e) k h = h .1
+
+module _ (d : Desk) (h : Coherent d) (s : ℕ) (l : s < 16) where
+  -- at most four
+  pub copies-four : sessionAt d s .count ≤ 4
+  copies-four = count-four (sessionAt d s .phase) (sessionAt d s .count) (h .session s l .count)
+
+  -- of records below N
+  pub copies-below : (j : ℕ) → j < sessionAt d s .count → copiedRec (sessionAt d s) j < d .n
+  copies-below j u = h .session s l .places j (omega (arith, copies-four)) .0 u .0
+
+  -- that differ
+  pub copies-differ : Differ (copiedRec (sessionAt d s)) (sessionAt d s .count)
+  copies-differ i j u v = h .session s l .places j (omega (arith, copies-four)) .0 v .1 i u
