@@ -8,7 +8,7 @@ use Rattle.layout.specs.Log.{homesWrites, bodyWrites, unsoundB, sharedB}
 use Rattle.layout.specs.Oldest.{oldestOf}
 use Rattle.desk.specs.Desk.{unmarked}
 use Rattle.desk.specs.Coherent.{freshB, placesOk, sessionOk, copiesB, coherentB}
-use Rattle.store.specs.Session.{matchesB, imageFault}
+use Rattle.store.specs.Session.{entryFault}
 use Rattle.store.specs.Open.{openFault, openReply}
 use Rattle.store.specs.Read.{readFault, readReply}
 use Rattle.store.specs.Write.{copyFault, writeFault, writeRefused, writeReply}
@@ -18,7 +18,7 @@ use Rattle.store.specs.Recover.{unsoundPlace, tiedBelow, tiesB, recoverFault, f
 use Rattle.claims.specs.Edges.{Edges}
 
 pub edges : Edges
-unfolding allBelow anyBelow countBelow lowest first commonFault answered shapedB occupiedB layFault layAnswer homesWrites bodyWrites unsoundB sharedB oldestOf unmarked freshB placesOk sessionOk copiesB coherentB matchesB imageFault openFault openReply readFault readReply copyFault writeFault writeRefused writeReply finishFault finishEntries finishReply reclaimFault reclaimReply unsoundPlace tiedBelow tiesB recoverFault firstLog recoverRefused recoverReply
+unfolding allBelow anyBelow countBelow lowest first commonFault answered shapedB occupiedB layFault layAnswer homesWrites bodyWrites unsoundB sharedB oldestOf unmarked freshB placesOk sessionOk copiesB coherentB entryFault openFault openReply readFault readReply copyFault writeFault writeRefused writeReply finishFault finishEntries finishReply reclaimFault reclaimReply unsoundPlace tiedBelow tiesB recoverFault firstLog recoverRefused recoverReply
 edges =
     record {
       a-lay = refl;

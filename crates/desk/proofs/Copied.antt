@@ -1,6 +1,5 @@
 -- What coherence says of a session's copies.
 use Prim.Native.Nat.{ℕ, _<_, _≤_}
-use mathlib.Core.Path.{_≡_}
 use native.Mathlib.Omega.{arith}
 use Rattle.layout.proofs.Groups.{Differ}
 use Rattle.desk.specs.declared.state.Desk.{Desk}

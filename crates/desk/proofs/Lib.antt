@@ -1,5 +1,6 @@
+pub mod Copied
+pub mod Entered
 pub mod Facts
 pub mod Sizes
 pub mod Struck
 pub mod Walk
-pub mod Copied

@@ -1,4 +1,10 @@
-// What abandon answers.
+// Abandon: an active session drops its marks and copies and becomes idle.
+ghost use mathlib.Core.Path.{_≡_};
+ghost use Rattle.desk.specs.Abandon.{abandonReply};
+use crate::coherence::coherent;
+use crate::session::idle_session;
+use crate::session::is_active;
+use crate::session::unmark;
 use crate::state::Desk;
 
 pub enum AbandonAnswer {
@@ -9,4 +15,38 @@ pub enum AbandonAnswer {
 pub struct AbandonReply {
     pub answer: AbandonAnswer,
     pub desk: Desk,
+}
+
+impl Desk {
+    pub fn abandon(mut self, session: u64) -> AbandonReply
+        ensures { λ r. ⌜ r ≡ abandonReply self session ⌝ }
+    {
+        let sound = coherent(self);
+        let m = self.m;
+        let fault = layout::common_fault(true, sound, true, session < m);
+        if fault != 0 {
+            return AbandonReply {
+                answer: AbandonAnswer::Refused(fault),
+                desk: self,
+            };
+        }
+        let i = session as usize;
+        let e = self.sessions[i];
+        let p = e.phase;
+        if !is_active(p) {
+            return AbandonReply {
+                answer: AbandonAnswer::Refused(6),
+                desk: self,
+            };
+        }
+        let count = e.count;
+        let copies = e.copies;
+        unmark(&mut self.holders, copies, count);
+        let idle = idle_session();
+        self.sessions[i] = idle;
+        AbandonReply {
+            answer: AbandonAnswer::Ok,
+            desk: self,
+        }
+    }
 }

@@ -1,5 +1,11 @@
-// What begin answers: the start number.
+// Begin: an idle session becomes active, and its start is the clock.
+ghost use mathlib.Core.Path.{_≡_};
+ghost use Rattle.desk.specs.Begin.{beginReply};
+use crate::coherence::coherent;
+use crate::session::is_idle;
+use crate::session::with_phase;
 use crate::state::Desk;
+use crate::state::Phase;
 
 pub enum BeginAnswer {
     Refused(u64),
@@ -9,4 +15,36 @@ pub enum BeginAnswer {
 pub struct BeginReply {
     pub answer: BeginAnswer,
     pub desk: Desk,
+}
+
+impl Desk {
+    pub fn begin(mut self, session: u64) -> BeginReply
+        ensures { λ r. ⌜ r ≡ beginReply self session ⌝ }
+    {
+        let sound = coherent(self);
+        let m = self.m;
+        let fault = layout::common_fault(true, sound, true, session < m);
+        if fault != 0 {
+            return BeginReply {
+                answer: BeginAnswer::Refused(fault),
+                desk: self,
+            };
+        }
+        let i = session as usize;
+        let e = self.sessions[i];
+        let p = e.phase;
+        if !is_idle(p) {
+            return BeginReply {
+                answer: BeginAnswer::Refused(6),
+                desk: self,
+            };
+        }
+        let clock = self.clock;
+        let begun = with_phase(e, Phase::Active(clock));
+        self.sessions[i] = begun;
+        BeginReply {
+            answer: BeginAnswer::Start(clock),
+            desk: self,
+        }
+    }
 }

@@ -3,9 +3,10 @@ ghost use Prim.Native.Nat.{_+_, _≤_, _<_};
 ghost use mathlib.Core.Bool.{true, not, _||_, cond};
 ghost use lib.ListN.{getD};
 ghost use Rattle.layout.specs.Below.{allBelow};
-ghost use Rattle.desk.specs.Desk.{isIdle, isSealed};
+ghost use Rattle.desk.specs.Desk.{isSealed};
 ghost use Rattle.desk.specs.Coherent.{countOk, numberOk, slotOk, zeroCopyB, coherentB};
 ghost use Rattle.desk.specs.Strike.{struck, placeT, struckPlaces, sessionT, busyT, busyH, quietB, zeroAt};
+use crate::session::is_idle;
 use crate::state::Desk;
 use crate::state::Phase;
 use crate::state::RecordCopy;
@@ -37,17 +38,6 @@ fn slot_ok(count: u64, slot: u64) -> bool
     ensures { λ r. ⌜ r ≡ slotOk count slot ⌝ }
 {
     (slot <= 1) & ((1 <= count) | (slot == 0))
-}
-
-fn is_idle(p: Phase) -> bool
-    ensures { λ r. ⌜ r ≡ isIdle p ⌝ }
-{
-    match p {
-        Phase::Idle => true,
-        Phase::Active(_) => false,
-        Phase::Sealed(_) => false,
-        Phase::Published(_) => false,
-    }
 }
 
 fn sealed_one(p: Phase) -> u64

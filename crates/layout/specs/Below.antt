@@ -1,7 +1,7 @@
 -- Tests and searches over the numbers below n, and their laws for a loop that counts up.
 use Prim.Native.Nat.{ℕ, zero, suc, _+_, _<_, _≤_}
-use mathlib.Core.Bool.{Bool, true, false, _&&_, _||_, and-false, or-true, cond}
-use mathlib.Core.Path.{_≡_, refl, sym, subst}
+use mathlib.Core.Bool.{Bool, true, false, _&&_, _||_, and-false, or-true, cond, false≢true}
+use mathlib.Core.Path.{_≡_, refl, sym, _∙_, subst}
 use mathlib.Core.Logic.{⊎-elim}
 use native.Mathlib.Nat.{le-of-suc-le-suc, not-suc-le-zero, eq-or-lt-of-le}
 use native.Mathlib.Omega.{arith}
@@ -110,3 +110,11 @@ module _ (p : ℕ → Bool) where
           (λ q. subst (λ (k : ℕ). p k ≡ false) (sym q) y)
           (f (let z : n ≤ lowest n p = ltb-false _ _ x in omega (arith, lowest-most n)))
           (eq-or-lt-of-le (le-of-suc-le-suc l))
+
+  -- a test that holds of some number is found
+  pub lowest-some : (n i : ℕ) → i < n → p i ≡ true → lowest n p < n
+  lowest-some n i l e =
+      ⊎-elim
+      (λ q. absurd (false≢true (sym (lowest-none n q i l) ∙ e)))
+      (λ lt. lt)
+      (eq-or-lt-of-le (lowest-most n))

@@ -1,5 +1,5 @@
 -- How a call refuses (document 01, "What is turned away"): its checks are made lowest number first, and the first that fails gives the number.
-use Prim.Native.Nat.{ℕ, zero, suc}
+use Prim.Native.Nat.{ℕ, zero, suc, _≤_}
 use mathlib.Core.Bool.{Bool, true, false, cond}
 use mathlib.Core.Path.{_≡_, refl}
 use native.Mathlib.Omega.{arith}
@@ -38,6 +38,11 @@ unfolding first
 first-both zero b e = (refl, e)
 first-both (suc k) b e = absurd (omega arith)
 
+pub first-assoc : (a b c : ℕ) → first (first a b) c ≡ first a (first b c)
+unfolding first
+first-assoc zero b c = refl
+first-assoc (suc k) b c = refl
+
 pub unless-zero : (ok : Bool) (k : ℕ) → unless ok (suc k) ≡ 0 → ok ≡ true
 unless-zero true k e = refl
 unless-zero false k e = absurd (omega arith)
@@ -51,6 +56,25 @@ pub answered-not : {A : Type 0} (k : ℕ) (f : ℕ → A) (a : A) → (k ≡ 0 �
 unfolding answered
 answered-not zero f a n = absurd (n refl)
 answered-not (suc k) f a n = refl
+
+-- what a call gives where its first checks refuse, and where they pass
+pub answered-refused : {A : Type 0} (k next : ℕ) (f : ℕ → A) (a : A) → (k ≡ 0 → ⊥) → answered (first k next) f a ≡ f k
+unfolding answered first
+answered-refused zero next f a n = absurd (n refl)
+answered-refused (suc k) next f a n = refl
+
+pub answered-passed : {A : Type 0} (k next : ℕ) (f : ℕ → A) (a : A) → k ≡ 0 → answered (first k next) f a ≡ answered next f a
+unfolding first
+answered-passed zero next f a e = refl
+answered-passed (suc k) next f a e = absurd (omega arith)
+
+pub common-most : (image desk trace session : Bool) → commonFault image desk trace session ≤ 4
+unfolding commonFault first
+common-most false desk trace session = omega arith
+common-most true false trace session = omega arith
+common-most true true false session = omega arith
+common-most true true true false = omega arith
+common-most true true true true = omega arith
 
 -- what the common checks leave
 pub record Common (image desk trace session : Bool) : Type 0 where

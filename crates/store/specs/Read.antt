@@ -41,11 +41,11 @@ holderOf d r = sessionAt d (markAt d r - 1)
 abbrev pub copyShown : Desk → ℕ → ℕ → Bool
 copyShown d start r = not (eqb (markAt d r) 0) && shownAt start (holderOf d r .phase)
 
-abbrev pub readRefused : Desk → ℕ → ReadReply
-readRefused d k = record { answer = Refused k; words = noWords; desk = d }
-
 abbrev pub readGives : Desk → ReadAnswer → List ℕ → ReadReply
 readGives d a ws = record { answer = a; words = ws; desk = d }
+
+abbrev pub readRefused : Desk → ℕ → ReadReply
+readRefused d k = readGives d (Refused k) noWords
 
 abbrev pub readDone : List ℕ → Desk → ℕ → ℕ → ReadReply
 readDone img d s r =

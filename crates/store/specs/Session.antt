@@ -11,13 +11,14 @@ use Rattle.desk.specs.Coherent.{coherentB, placeHas}
 use Rattle.desk.specs.declared.state.Session.{Session}
 use Rattle.desk.specs.declared.state.Desk.{Desk}
 
--- a desk is coherent with an image where its N and M are the header's
-unfoldable pub matchesB : Desk → List ℕ → Bool
-matchesB d img = coherentB d && eqb (d .n) (recordsOf img) && eqb (d .m) (sessionsOf img)
+-- checks 1, 2, 3, 4 of a call with an image, for a desk with this N and M: it is coherent, and where the call takes an image N and M are the
+-- header's. `room` says whether the trace is long enough, and is true of a call that takes none
+unfoldable pub entryFault : List ℕ → Bool → ℕ → ℕ → Bool → ℕ → ℕ
+entryFault img coherent n m room s =
+    commonFault (shapedB img) (coherent && eqb n (recordsOf img) && eqb m (sessionsOf img)) room (ltb s m)
 
--- checks 1, 2, 3, 4 of a call with an image; `room` says whether its trace is long enough, and is true of a call that takes none
-unfoldable pub imageFault : List ℕ → Desk → Bool → ℕ → ℕ
-imageFault img d room s = commonFault (shapedB img) (matchesB d img) room (ltb s (d .m))
+abbrev pub imageFault : List ℕ → Desk → Bool → ℕ → ℕ
+imageFault img d room s = entryFault img (coherentB d) (d .n) (d .m) room s
 
 -- a trace of 48 words or more
 abbrev pub roomFor : ℕ → Bool

@@ -12,6 +12,7 @@ use Rattle.desk.specs.Desk.{sessionAt, markAt, isActive, putSession, dropped}
 use Rattle.desk.specs.declared.state.Session.{Session}
 use Rattle.desk.specs.declared.state.Desk.{Desk}
 use Rattle.store.specs.Session.{imageFault, ownPlace}
+use Rattle.store.specs.declared.writing.WriteAnswer.{WriteAnswer}
 use Rattle.store.specs.declared.writing.WriteAnswer.the-variants.{Refused, Taken, Ok}
 use Rattle.store.specs.declared.writing.WriteReply.{WriteReply}
 
@@ -22,12 +23,10 @@ slotEmpty img n s q = eqb (persistAt img n (placeOf s q)) 0
 abbrev pub emptySlot : List ℕ → ℕ → ℕ → ℕ
 emptySlot img n s = lowest 2 (slotEmpty img n s)
 
--- what is asked of a record that the session does not copy yet: 7 another session holds it, 8 it is the fifth, 9 it is the first and both
--- slots are occupied
-unfoldable pub copyFault : List ℕ → Desk → ℕ → ℕ → ℕ
-copyFault img d s r =
-    first (unless (eqb (markAt d r) 0) 7)
-    (first (unless (ltb (sessionAt d s .count) 4) 8) (unless (leb 1 (sessionAt d s .count) || ltb (emptySlot img (d .n) s) 2) 9))
+-- what is asked of a record that the session does not copy, so that a mark is another's: 7 another session holds it, 8 it is the fifth, 9 it is
+-- the first and both slots are occupied
+unfoldable pub copyFault : ℕ → ℕ → ℕ → ℕ
+copyFault mark count free = first (unless (eqb mark 0) 7) (first (unless (ltb count 4) 8) (unless (leb 1 count || ltb free 2) 9))
 
 abbrev pub ownsB : Desk → ℕ → ℕ → Bool
 ownsB d s r = ltb (ownPlace (sessionAt d s) r) 4
@@ -35,12 +34,14 @@ ownsB d s r = ltb (ownPlace (sessionAt d s) r) 4
 unfoldable pub writeFault : List ℕ → Desk → ℕ → ℕ → ℕ
 writeFault img d s r =
     first (imageFault img d true s)
-    (first (unless (ltb r (d .n)) 5) (first (unless (isActive (sessionAt d s .phase)) 6) (cond (ownsB d s r) 0 (copyFault img d s r))))
+    (first (unless (ltb r (d .n)) 5) (first (unless (isActive (sessionAt d s .phase)) 6) (cond (ownsB d s r) 0 (copyFault (markAt d r) (sessionAt d s .count) (emptySlot img (d .n) s)))))
 
--- refusal 7 names the holder
+abbrev pub writeSays : Desk → WriteAnswer → WriteReply
+writeSays d a = record { answer = a; desk = d }
+
+-- refusal 7 names the holder, and leaves the caller idle with its marks and copies dropped
 unfoldable pub writeRefused : Desk → ℕ → ℕ → ℕ → WriteReply
-writeRefused d s r k =
-    cond (eqb k 7) (record { answer = Taken (markAt d r - 1); desk = dropped d s }) (record { answer = Refused k; desk = d })
+writeRefused d s r k = cond (eqb k 7) (writeSays (dropped d s) (Taken (markAt d r - 1))) (writeSays d (Refused k))
 
 -- the session with its own copy overwritten, in its place
 abbrev pub overwritten : Session → ℕ → List ℕ → Session
@@ -53,8 +54,8 @@ extended e r ws slot =
     record { phase = e .phase; count = e .count + 1; slot = slot; copies = set (e .copies) (e .count) (record { rec = r; words = ws }) }
 
 -- the slot that is reserved: at the first copy the lowest empty one, then the same
-abbrev pub reserved : List ℕ → Desk → ℕ → ℕ
-reserved img d s = cond (eqb (sessionAt d s .count) 0) (emptySlot img (d .n) s) (sessionAt d s .slot)
+abbrev pub reserved : ℕ → ℕ → ℕ → ℕ
+reserved count free slot = cond (eqb count 0) free slot
 
 abbrev pub copied : List ℕ → Desk → ℕ → ℕ → List ℕ → Desk
 copied img d s r ws =
@@ -63,15 +64,11 @@ copied img d s r ws =
       n = d .n;
       m = d .m;
       holders = set (d .holders) r (s + 1);
-      sessions = set (d .sessions) s (extended (sessionAt d s) r ws (reserved img d s));
+      sessions = set (d .sessions) s (extended (sessionAt d s) r ws (reserved (sessionAt d s .count) (emptySlot img (d .n) s) (sessionAt d s .slot)));
     }
 
 abbrev pub writeDone : List ℕ → Desk → ℕ → ℕ → List ℕ → WriteReply
-writeDone img d s r ws =
-    record {
-      answer = Ok;
-      desk = cond (ownsB d s r) (putSession d s (overwritten (sessionAt d s) r ws)) (copied img d s r ws);
-    }
+writeDone img d s r ws = writeSays (cond (ownsB d s r) (putSession d s (overwritten (sessionAt d s) r ws)) (copied img d s r ws)) Ok
 
 unfoldable pub writeReply : List ℕ → Desk → ℕ → ℕ → List ℕ → WriteReply
 writeReply img d s r ws = answered (writeFault img d s r) (writeRefused d s r) (writeDone img d s r ws)

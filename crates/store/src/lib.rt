@@ -1,4 +1,6 @@
 // The calls that take an image: opening it, the session calls on it, and recovery.
+mod copies;
+mod entering;
 mod finishing;
 mod opening;
 mod reading;
@@ -14,6 +16,7 @@ pub use opening::OpenReply;
 pub use opening::open;
 pub use reading::ReadAnswer;
 pub use reading::ReadReply;
+pub use reading::read;
 pub use reclaiming::ReclaimAnswer;
 pub use reclaiming::ReclaimReply;
 pub use recovering::RecoverAnswer;
@@ -22,3 +25,4 @@ pub use settling::SettleAnswer;
 pub use settling::SettleReply;
 pub use writing::WriteAnswer;
 pub use writing::WriteReply;
+pub use writing::write;

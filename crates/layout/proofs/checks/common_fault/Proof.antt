@@ -2,8 +2,6 @@ use Rattle.layout.specs.Checks.{first, commonFault}
 use borrow.Author.Tests.{not-true, not-false}
 use Rattle.layout.proofs.checks.common_fault.Statement.{statement}
 use Rattle.layout.proofs.checks.common_fault.Tie as tie
-use Rattle.layout.proofs.checks.common_fault.Reads as reads
-use Rattle.layout.proofs.checks.common_fault.Lts as lts
 
 returns : tie.Need-returns
 unfolding commonFault first

@@ -1,0 +1,62 @@
+-- What a session call may go by past the checks that calls share, and what it answers by how far it comes.
+use Prim.Native.Nat.{ℕ, _+_, _^_, _<_, _≤_}
+use mathlib.Core.Bool.{true}
+use mathlib.Core.Path.{_≡_}
+use native.Mathlib.Omega.{arith}
+use lib.Dec.{ltb}
+use borrow.Author.Tests.{ltb-true}
+use Rattle.layout.specs.Checks.{first, commonFault, answered, first-zero, first-not, answered-zero, answered-not, common-of}
+use Rattle.desk.specs.declared.state.Desk.{Desk}
+use Rattle.desk.specs.declared.state.Session.{Session}
+use Rattle.desk.specs.declared.state.Phase.{Phase}
+use Rattle.desk.specs.declared.state.Phase.the-variants.{Idle, Active, Sealed, Published}
+use Rattle.desk.specs.Desk.{copyAt}
+use Rattle.desk.specs.Coherent.{coherentB}
+use Rattle.desk.proofs.Facts.{CountIn, SessionIn, Coherent, says-coherent}
+
+pub record Entered (d : Desk) (s : ℕ) : Type 0 where
+  pub coherent : Coherent d
+  pub below-m : s < d .m
+  pub below-16 : s < 16
+
+-- a coherent desk and a session below M
+pub enters : (d : Desk) (s : ℕ) → coherentB d ≡ true → ltb s (d .m) ≡ true → Entered d s
+enters d s e l =
+    let h = says-coherent d .yes e in
+    let b = ltb-true s (d .m) l in
+    record { coherent = h; below-m = b; below-16 = omega (arith, h .m-high) }
+
+-- the checks of a call without an image
+abbrev pub entryFault : Desk → ℕ → ℕ
+entryFault d s = commonFault true (coherentB d) true (ltb s (d .m))
+
+pub entered : (d : Desk) (s : ℕ) → entryFault d s ≡ 0 → Entered d s
+entered d s z = let h = common-of true (coherentB d) true (ltb s (d .m)) z in enters d s (h .desk-ok) (h .session-ok)
+
+-- a coherent clock can be moved on by one
+pub clock-moves : (d : Desk) → Coherent d → d .clock + 1 < 2 ^ 64
+clock-moves d h = omega (arith, h .clock-high)
+
+-- refused by the first checks, by the next ones, or by none
+pub by-first : {A : Type 0} (a b : ℕ) (f : ℕ → A) (r : A) → (a ≡ 0 → ⊥) → answered (first a b) f r ≡ f a
+by-first a b f r n = rw (first-not a b n) (answered-not a f r n)
+
+pub by-next : {A : Type 0} (a b : ℕ) (f : ℕ → A) (r : A) → a ≡ 0 → (b ≡ 0 → ⊥) → answered (first a b) f r ≡ f b
+by-next a b f r z n = rw (first-zero a b z) (answered-not b f r n)
+
+pub by-none : {A : Type 0} (a b : ℕ) (f : ℕ → A) (r : A) → a ≡ 0 → b ≡ 0 → answered (first a b) f r ≡ r
+by-none a b f r z y = rw (first-zero a b z) (answered-zero b f r y)
+
+-- a session in order has at most 4 copies
+count-most : (p : Phase) (k : ℕ) → CountIn p k → k ≤ 4
+count-most Idle k h = omega arith
+count-most (Active b) k h = h
+count-most (Sealed p) k h = h .1
+count-most (Published e) k h = h .1
+
+-- the marks of its first copies can be taken away
+pub markable : {clock n : ℕ} {e : Session} → SessionIn clock n e → n ≤ 256 → (count : ℕ) → count ≤ e .count
+    → (count ≤ 4) × ((j : ℕ) → j < count → copyAt e j .rec < 256)
+markable {clock} {n} {e} h w count l =
+    let m = count-most (e .phase) (e .count) (h .count) in
+    (omega arith, λ j k. let b = h .places j (omega arith) .0 (omega arith) .0 in omega arith)

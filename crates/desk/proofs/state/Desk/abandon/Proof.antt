@@ -1,0 +1,76 @@
+use Rattle.desk.proofs.Entered.{Entered, entryFault, entered, by-first, by-next, by-none, markable}
+use native.Mathlib.Omega.{arith}
+use mathlib.Core.Path.{_≡_, refl, sym, _∙_}
+use borrow.Author.Tests.{not-true, not-false}
+use Rattle.desk.specs.Abandon.{abandonReply, abandonFault, abandonRefused}
+use borrow.Author.Needs.{needs}
+use Rattle.desk.proofs.state.Desk.abandon.Statement.{statement}
+use Rattle.desk.proofs.state.Desk.abandon.Tie as tie
+
+fault-is : (c : tie.After-common-fault) → c .common-fault .result ≡ entryFault (c .before .before .args .t1) (c .before .before .args .session)
+fault-is c = rw (c .before .coherent .ensures) at (c .common-fault .ensures)
+
+-- past the common checks
+passed : (c : tie.Else1) → entryFault (c .before .before .before .args .t1) (c .before .before .before .args .session) ≡ 0
+passed c = sym (fault-is (c .before)) ∙ c .if1 .left
+
+inside : (c : tie.Else1) → Entered (c .before .before .before .args .t1) (c .before .before .before .args .session)
+inside c = entered _ _ (passed c)
+
+coherent-requires : tie.Need-coherent-requires
+coherent-requires c κs = search needs
+
+common-fault-requires : tie.Need-common-fault-requires
+common-fault-requires c κs = search needs
+
+returns : tie.Need-returns
+unfolding abandonReply abandonFault
+returns c = rw (fault-is (c .before)) (sym (by-first _ _ (abandonRefused _) _ (λ z. c .if1 .taken (fault-is (c .before) ∙ z))))
+
+mul-e : tie.Need-mul-e
+mul-e c = omega (arith, inside c .below-16)
+
+element-copy-out-e : tie.Need-element-copy-out-e
+element-copy-out-e c = inside c .below-16
+
+is-active-requires : tie.Need-is-active-requires
+is-active-requires c κs = search needs
+
+returns-2 : tie.Need-returns-2
+unfolding abandonReply abandonFault
+returns-2 c = rw (sym (c .before .is-active .ensures) ∙ not-true _ (c .if2 .taken)) (sym (by-next _ _ (abandonRefused _) _ (passed (c .before .before .before)) (λ z. omega arith)))
+
+unmark-requires : tie.Need-unmark-requires
+unmark-requires c κs =
+    let h = inside (c .before .before .before .before .before) .coherent in
+    markable (h .session _ (inside (c .before .before .before .before .before) .below-16)) (h .n-high) _ (omega arith)
+
+idle-session-requires : tie.Need-idle-session-requires
+idle-session-requires c κs = search needs
+
+mul-idle : tie.Need-mul-idle
+mul-idle c = omega (arith, inside (c .before .before .before .before .before .before .before) .below-16)
+
+element-set-from-idle : tie.Need-element-set-from-idle
+element-set-from-idle c = inside (c .before .before .before .before .before .before .before) .below-16
+
+returns-3 : tie.Need-returns-3
+unfolding abandonReply abandonFault
+returns-3 c = rw ((c .before) .unmark .ensures, c .idle-session .ensures, sym ((c .before .before .before .before .before) .is-active .ensures) ∙ not-false _ ((c .before .before .before .before) .if2 .left)) (sym (by-none _ _ (abandonRefused _) _ (passed (c .before .before .before .before .before .before .before)) refl))
+
+pub abandon-spec : {M : Type 1} → statement M
+abandon-spec =
+    tie.close
+    (tie.spec
+    coherent-requires
+    common-fault-requires
+    returns
+    mul-e
+    element-copy-out-e
+    is-active-requires
+    returns-2
+    unmark-requires
+    idle-session-requires
+    mul-idle
+    element-set-from-idle
+    returns-3)

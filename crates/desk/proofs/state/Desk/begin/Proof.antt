@@ -1,0 +1,70 @@
+use native.Mathlib.Omega.{arith}
+use mathlib.Core.Path.{_≡_, refl, sym, _∙_}
+use borrow.Author.Tests.{not-true, not-false}
+use Rattle.desk.proofs.Entered.{Entered, entryFault, entered, by-first, by-next, by-none}
+use Rattle.desk.specs.Begin.{beginReply, beginFault, beginRefused}
+use borrow.Author.Needs.{needs}
+use Rattle.desk.proofs.state.Desk.begin.Statement.{statement}
+use Rattle.desk.proofs.state.Desk.begin.Tie as tie
+
+fault-is : (c : tie.After-common-fault) → c .common-fault .result ≡ entryFault (c .before .before .args .t1) (c .before .before .args .session)
+fault-is c = rw (c .before .coherent .ensures) at (c .common-fault .ensures)
+
+-- past the common checks
+passed : (c : tie.Else1) → entryFault (c .before .before .before .args .t1) (c .before .before .before .args .session) ≡ 0
+passed c = sym (fault-is (c .before)) ∙ c .if1 .left
+
+inside : (c : tie.Else1) → Entered (c .before .before .before .args .t1) (c .before .before .before .args .session)
+inside c = entered _ _ (passed c)
+
+coherent-requires : tie.Need-coherent-requires
+coherent-requires c κs = search needs
+
+common-fault-requires : tie.Need-common-fault-requires
+common-fault-requires c κs = search needs
+
+returns : tie.Need-returns
+unfolding beginReply beginFault
+returns c = rw (fault-is (c .before)) (sym (by-first _ _ (beginRefused _) _ (λ z. c .if1 .taken (fault-is (c .before) ∙ z))))
+
+mul-e : tie.Need-mul-e
+mul-e c = omega (arith, inside c .below-16)
+
+element-copy-out-e : tie.Need-element-copy-out-e
+element-copy-out-e c = inside c .below-16
+
+is-idle-requires : tie.Need-is-idle-requires
+is-idle-requires c κs = search needs
+
+returns-2 : tie.Need-returns-2
+unfolding beginReply beginFault
+returns-2 c = rw (sym (c .before .is-idle .ensures) ∙ not-true _ (c .if2 .taken)) (sym (by-next _ _ (beginRefused _) _ (passed (c .before .before .before)) (λ z. omega arith)))
+
+with-phase-requires : tie.Need-with-phase-requires
+with-phase-requires c κs = search needs
+
+mul-begun : tie.Need-mul-begun
+mul-begun c = omega (arith, inside (c .before .before .before .before) .below-16)
+
+element-set-from-begun : tie.Need-element-set-from-begun
+element-set-from-begun c = inside (c .before .before .before .before) .below-16
+
+returns-3 : tie.Need-returns-3
+unfolding beginReply beginFault
+returns-3 c = rw (c .with-phase .ensures, sym ((c .before .before) .is-idle .ensures) ∙ not-false _ ((c .before) .if2 .left)) (sym (by-none _ _ (beginRefused _) _ (passed (c .before .before .before .before)) refl))
+
+pub begin-spec : {M : Type 1} → statement M
+begin-spec =
+    tie.close
+    (tie.spec
+    coherent-requires
+    common-fault-requires
+    returns
+    mul-e
+    element-copy-out-e
+    is-idle-requires
+    returns-2
+    with-phase-requires
+    mul-begun
+    element-set-from-begun
+    returns-3)
