@@ -3,16 +3,8 @@ use Prim.Native.Nat.{ℕ, _<_, _≤_}
 use native.Mathlib.Omega.{arith}
 use Rattle.layout.proofs.Groups.{Differ}
 use Rattle.desk.specs.declared.state.Desk.{Desk}
-use Rattle.desk.specs.declared.state.Phase.{Phase}
-use Rattle.desk.specs.declared.state.Phase.the-variants.{Idle, Active, Sealed, Published}
 use Rattle.desk.specs.Desk.{copiedRec, sessionAt}
-use Rattle.desk.proofs.Facts.{CountIn, Coherent}
-
-count-four : (p : Phase) (k : ℕ) → CountIn p k → k ≤ 4
-count-four Idle k h = omega arith
-count-four (Active b) k h = h
-count-four (Sealed p) k h = h .1
-count-four (Published e) k h = h .1
+use Rattle.desk.proofs.Facts.{count-four, Coherent}
 
 module _ (d : Desk) (h : Coherent d) (s : ℕ) (l : s < 16) where
   -- at most four

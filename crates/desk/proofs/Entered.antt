@@ -5,14 +5,12 @@ use mathlib.Core.Path.{_≡_}
 use native.Mathlib.Omega.{arith}
 use lib.Dec.{ltb}
 use borrow.Author.Tests.{ltb-true}
-use Rattle.layout.specs.Checks.{first, commonFault, answered, first-zero, first-not, answered-zero, answered-not, common-of}
+use Rattle.layout.specs.Checks.{first, commonFault, common-of}
 use Rattle.desk.specs.declared.state.Desk.{Desk}
 use Rattle.desk.specs.declared.state.Session.{Session}
-use Rattle.desk.specs.declared.state.Phase.{Phase}
-use Rattle.desk.specs.declared.state.Phase.the-variants.{Idle, Active, Sealed, Published}
 use Rattle.desk.specs.Desk.{copyAt}
 use Rattle.desk.specs.Coherent.{coherentB}
-use Rattle.desk.proofs.Facts.{CountIn, SessionIn, Coherent, says-coherent}
+use Rattle.desk.proofs.Facts.{count-four, SessionIn, Coherent, says-coherent}
 
 pub record Entered (d : Desk) (s : ℕ) : Type 0 where
   pub coherent : Coherent d
@@ -37,26 +35,9 @@ entered d s z = let h = common-of true (coherentB d) true (ltb s (d .m)) z in en
 pub clock-moves : (d : Desk) → Coherent d → d .clock + 1 < 2 ^ 64
 clock-moves d h = omega (arith, h .clock-high)
 
--- refused by the first checks, by the next ones, or by none
-pub by-first : {A : Type 0} (a b : ℕ) (f : ℕ → A) (r : A) → (a ≡ 0 → ⊥) → answered (first a b) f r ≡ f a
-by-first a b f r n = rw (first-not a b n) (answered-not a f r n)
-
-pub by-next : {A : Type 0} (a b : ℕ) (f : ℕ → A) (r : A) → a ≡ 0 → (b ≡ 0 → ⊥) → answered (first a b) f r ≡ f b
-by-next a b f r z n = rw (first-zero a b z) (answered-not b f r n)
-
-pub by-none : {A : Type 0} (a b : ℕ) (f : ℕ → A) (r : A) → a ≡ 0 → b ≡ 0 → answered (first a b) f r ≡ r
-by-none a b f r z y = rw (first-zero a b z) (answered-zero b f r y)
-
--- a session in order has at most 4 copies
-count-most : (p : Phase) (k : ℕ) → CountIn p k → k ≤ 4
-count-most Idle k h = omega arith
-count-most (Active b) k h = h
-count-most (Sealed p) k h = h .1
-count-most (Published e) k h = h .1
-
 -- the marks of its first copies can be taken away
 pub markable : {clock n : ℕ} {e : Session} → SessionIn clock n e → n ≤ 256 → (count : ℕ) → count ≤ e .count
     → (count ≤ 4) × ((j : ℕ) → j < count → copyAt e j .rec < 256)
 markable {clock} {n} {e} h w count l =
-    let m = count-most (e .phase) (e .count) (h .count) in
+    let m = count-four (e .phase) (e .count) (h .count) in
     (omega arith, λ j k. let b = h .places j (omega arith) .0 (omega arith) .0 in omega arith)

@@ -3,6 +3,7 @@ use Prim.Native.Nat.{ℕ, _+_, _<_, _≤_}
 use mathlib.Core.Bool.{true}
 use mathlib.Core.Path.{_≡_, refl}
 use mathlib.Core.Logic.{_⊎_}
+use native.Mathlib.Omega.{arith}
 use Rattle.layout.specs.Below.{allBelow, countBelow}
 use Rattle.layout.proofs.Says.{Says, says-le, says-lt, says-eq, says-ne, says-and, says-or, says-same, says-all, says-any, says-if, says-itself, says-by}
 use Rattle.desk.specs.declared.state.Desk.{Desk}
@@ -23,6 +24,13 @@ says-count Idle k = says-eq k 0
 says-count (Active b) k = says-le k 4
 says-count (Sealed p) k = says-and (says-le 1 k) (says-le k 4)
 says-count (Published e) k = says-and (says-le 1 k) (says-le k 4)
+
+-- at most 4 copies in any phase
+pub count-four : (p : Phase) (k : ℕ) → CountIn p k → k ≤ 4
+count-four Idle k h = omega arith
+count-four (Active b) k h = h
+count-four (Sealed p) k h = h .1
+count-four (Published e) k h = h .1
 
 abbrev pub NumberIn : Phase → ℕ → Type 0
 NumberIn Idle t = Unit {0}

@@ -1,7 +1,7 @@
 -- How a call refuses (document 01, "What is turned away"): its checks are made lowest number first, and the first that fails gives the number.
 use Prim.Native.Nat.{ℕ, zero, suc, _≤_}
 use mathlib.Core.Bool.{Bool, true, false, cond}
-use mathlib.Core.Path.{_≡_, refl}
+use mathlib.Core.Path.{_≡_, refl, _∙_}
 use native.Mathlib.Omega.{arith}
 
 -- one check: the refusal's number unless the test holds; 0 is no refusal
@@ -67,6 +67,12 @@ pub answered-passed : {A : Type 0} (k next : ℕ) (f : ℕ → A) (a : A) → k 
 unfolding first
 answered-passed zero next f a e = refl
 answered-passed (suc k) next f a e = absurd (omega arith)
+
+pub answered-next : {A : Type 0} (k next : ℕ) (f : ℕ → A) (a : A) → k ≡ 0 → (next ≡ 0 → ⊥) → answered (first k next) f a ≡ f next
+answered-next k next f a e n = answered-passed k next f a e ∙ answered-not next f a n
+
+pub answered-done : {A : Type 0} (k next : ℕ) (f : ℕ → A) (a : A) → k ≡ 0 → next ≡ 0 → answered (first k next) f a ≡ a
+answered-done k next f a e z = answered-passed k next f a e ∙ answered-zero next f a z
 
 pub common-most : (image desk trace session : Bool) → commonFault image desk trace session ≤ 4
 unfolding commonFault first

@@ -2,9 +2,7 @@
 ghost use mathlib.Core.Path.{_≡_};
 ghost use Rattle.store.specs.Open.{openFault, openReply, freshDesk};
 use desk::Desk;
-use desk::Phase;
-use desk::RecordCopy;
-use desk::Session;
+use desk::idle_session;
 
 pub enum OpenAnswer {
     Refused(u64),
@@ -19,16 +17,7 @@ pub struct OpenReply {
 fn fresh(clock: u64, n: u64, m: u64) -> Desk
     ensures { λ r. ⌜ r ≡ freshDesk clock n m ⌝ }
 {
-    let none = RecordCopy {
-        rec: 0,
-        words: [0; 4],
-    };
-    let idle = Session {
-        phase: Phase::Idle,
-        count: 0,
-        slot: 0,
-        copies: [none; 4],
-    };
+    let idle = idle_session();
     Desk {
         clock: clock,
         n: n,

@@ -1,6 +1,9 @@
-use Rattle.desk.proofs.Entered.{Entered, entryFault, entered, by-first, by-next, by-none, markable}
+use Rattle.layout.specs.Checks.{answered-refused, answered-next, answered-done}
+use Rattle.desk.proofs.Entered.{Entered, entryFault, entered, markable}
 use native.Mathlib.Omega.{arith}
 use mathlib.Core.Path.{_≡_, refl, sym, _∙_}
+use mathlib.Core.Bool.{true, false}
+use Rattle.desk.specs.Desk.{sessionAt, isActive}
 use borrow.Author.Tests.{not-true, not-false}
 use Rattle.desk.specs.Abandon.{abandonReply, abandonFault, abandonRefused}
 use borrow.Author.Needs.{needs}
@@ -17,6 +20,12 @@ passed c = sym (fault-is (c .before)) ∙ c .if1 .left
 inside : (c : tie.Else1) → Entered (c .before .before .before .args .t1) (c .before .before .before .args .session)
 inside c = entered _ _ (passed c)
 
+not-active : (c : tie.Then2) → isActive (sessionAt (c .before .before .before .before .before .before .args .t1) (c .before .before .before .before .before .before .args .session) .phase) ≡ false
+not-active c = sym (c .before .is-active .ensures) ∙ not-true _ (c .if2 .taken)
+
+was-active : (c : tie.Else2) → isActive (sessionAt (c .before .before .before .before .before .before .args .t1) (c .before .before .before .before .before .before .args .session) .phase) ≡ true
+was-active c = sym (c .before .is-active .ensures) ∙ not-false _ (c .if2 .left)
+
 coherent-requires : tie.Need-coherent-requires
 coherent-requires c κs = search needs
 
@@ -25,7 +34,7 @@ common-fault-requires c κs = search needs
 
 returns : tie.Need-returns
 unfolding abandonReply abandonFault
-returns c = rw (fault-is (c .before)) (sym (by-first _ _ (abandonRefused _) _ (λ z. c .if1 .taken (fault-is (c .before) ∙ z))))
+returns c = rw (fault-is (c .before)) (sym (answered-refused _ _ (abandonRefused _) _ (λ z. c .if1 .taken (fault-is (c .before) ∙ z))))
 
 mul-e : tie.Need-mul-e
 mul-e c = omega (arith, inside c .below-16)
@@ -38,7 +47,7 @@ is-active-requires c κs = search needs
 
 returns-2 : tie.Need-returns-2
 unfolding abandonReply abandonFault
-returns-2 c = rw (sym (c .before .is-active .ensures) ∙ not-true _ (c .if2 .taken)) (sym (by-next _ _ (abandonRefused _) _ (passed (c .before .before .before)) (λ z. omega arith)))
+returns-2 c = rw (not-active c) (sym (answered-next _ _ (abandonRefused _) _ (passed (c .before .before .before)) (λ z. omega arith)))
 
 unmark-requires : tie.Need-unmark-requires
 unmark-requires c κs =
@@ -56,7 +65,7 @@ element-set-from-idle c = inside (c .before .before .before .before .before .bef
 
 returns-3 : tie.Need-returns-3
 unfolding abandonReply abandonFault
-returns-3 c = rw ((c .before) .unmark .ensures, c .idle-session .ensures, sym ((c .before .before .before .before .before) .is-active .ensures) ∙ not-false _ ((c .before .before .before .before) .if2 .left)) (sym (by-none _ _ (abandonRefused _) _ (passed (c .before .before .before .before .before .before .before)) refl))
+returns-3 c = rw ((c .before) .unmark .ensures, c .idle-session .ensures, was-active (c .before .before .before .before)) (sym (answered-done _ _ (abandonRefused _) _ (passed (c .before .before .before .before .before .before .before)) refl))
 
 pub abandon-spec : {M : Type 1} → statement M
 abandon-spec =

@@ -1,7 +1,10 @@
 use native.Mathlib.Omega.{arith}
 use mathlib.Core.Path.{_≡_, refl, sym, _∙_}
+use mathlib.Core.Bool.{true, false}
+use Rattle.desk.specs.Desk.{sessionAt, isIdle}
 use borrow.Author.Tests.{not-true, not-false}
-use Rattle.desk.proofs.Entered.{Entered, entryFault, entered, by-first, by-next, by-none}
+use Rattle.layout.specs.Checks.{answered-refused, answered-next, answered-done}
+use Rattle.desk.proofs.Entered.{Entered, entryFault, entered}
 use Rattle.desk.specs.Begin.{beginReply, beginFault, beginRefused}
 use borrow.Author.Needs.{needs}
 use Rattle.desk.proofs.state.Desk.begin.Statement.{statement}
@@ -17,6 +20,12 @@ passed c = sym (fault-is (c .before)) ∙ c .if1 .left
 inside : (c : tie.Else1) → Entered (c .before .before .before .args .t1) (c .before .before .before .args .session)
 inside c = entered _ _ (passed c)
 
+not-idle : (c : tie.Then2) → isIdle (sessionAt (c .before .before .before .before .before .before .args .t1) (c .before .before .before .before .before .before .args .session) .phase) ≡ false
+not-idle c = sym (c .before .is-idle .ensures) ∙ not-true _ (c .if2 .taken)
+
+was-idle : (c : tie.Else2) → isIdle (sessionAt (c .before .before .before .before .before .before .args .t1) (c .before .before .before .before .before .before .args .session) .phase) ≡ true
+was-idle c = sym (c .before .is-idle .ensures) ∙ not-false _ (c .if2 .left)
+
 coherent-requires : tie.Need-coherent-requires
 coherent-requires c κs = search needs
 
@@ -25,7 +34,7 @@ common-fault-requires c κs = search needs
 
 returns : tie.Need-returns
 unfolding beginReply beginFault
-returns c = rw (fault-is (c .before)) (sym (by-first _ _ (beginRefused _) _ (λ z. c .if1 .taken (fault-is (c .before) ∙ z))))
+returns c = rw (fault-is (c .before)) (sym (answered-refused _ _ (beginRefused _) _ (λ z. c .if1 .taken (fault-is (c .before) ∙ z))))
 
 mul-e : tie.Need-mul-e
 mul-e c = omega (arith, inside c .below-16)
@@ -38,7 +47,7 @@ is-idle-requires c κs = search needs
 
 returns-2 : tie.Need-returns-2
 unfolding beginReply beginFault
-returns-2 c = rw (sym (c .before .is-idle .ensures) ∙ not-true _ (c .if2 .taken)) (sym (by-next _ _ (beginRefused _) _ (passed (c .before .before .before)) (λ z. omega arith)))
+returns-2 c = rw (not-idle c) (sym (answered-next _ _ (beginRefused _) _ (passed (c .before .before .before)) (λ z. omega arith)))
 
 with-phase-requires : tie.Need-with-phase-requires
 with-phase-requires c κs = search needs
@@ -51,7 +60,7 @@ element-set-from-begun c = inside (c .before .before .before .before) .below-16
 
 returns-3 : tie.Need-returns-3
 unfolding beginReply beginFault
-returns-3 c = rw (c .with-phase .ensures, sym ((c .before .before) .is-idle .ensures) ∙ not-false _ ((c .before) .if2 .left)) (sym (by-none _ _ (beginRefused _) _ (passed (c .before .before .before .before)) refl))
+returns-3 c = rw (c .with-phase .ensures, was-idle (c .before)) (sym (answered-done _ _ (beginRefused _) _ (passed (c .before .before .before .before)) refl))
 
 pub begin-spec : {M : Type 1} → statement M
 begin-spec =

@@ -1,7 +1,10 @@
 use native.Mathlib.Omega.{arith}
 use mathlib.Core.Path.{_≡_, refl, sym, _∙_}
+use mathlib.Core.Bool.{true, false}
+use Rattle.desk.specs.Desk.{sessionAt, isSealed}
 use borrow.Author.Tests.{not-true, not-false}
-use Rattle.desk.proofs.Entered.{Entered, entryFault, entered, clock-moves, by-first, by-next, by-none}
+use Rattle.layout.specs.Checks.{answered-refused, answered-next, answered-done}
+use Rattle.desk.proofs.Entered.{Entered, entryFault, entered, clock-moves}
 use Rattle.desk.specs.Publish.{publishReply, publishFault, publishRefused}
 use borrow.Author.Needs.{needs}
 use Rattle.desk.proofs.state.Desk.publish.Statement.{statement}
@@ -17,6 +20,12 @@ passed c = sym (fault-is (c .before)) ∙ c .if1 .left
 inside : (c : tie.Else1) → Entered (c .before .before .before .args .t1) (c .before .before .before .args .session)
 inside c = entered _ _ (passed c)
 
+not-sealed : (c : tie.Then2) → isSealed (sessionAt (c .before .before .before .before .before .before .args .t1) (c .before .before .before .before .before .before .args .session) .phase) ≡ false
+not-sealed c = sym (c .before .is-sealed .ensures) ∙ not-true _ (c .if2 .taken)
+
+was-sealed : (c : tie.Else2) → isSealed (sessionAt (c .before .before .before .before .before .before .args .t1) (c .before .before .before .before .before .before .args .session) .phase) ≡ true
+was-sealed c = sym (c .before .is-sealed .ensures) ∙ not-false _ (c .if2 .left)
+
 coherent-requires : tie.Need-coherent-requires
 coherent-requires c κs = search needs
 
@@ -25,7 +34,7 @@ common-fault-requires c κs = search needs
 
 returns : tie.Need-returns
 unfolding publishReply publishFault
-returns c = rw (fault-is (c .before)) (sym (by-first _ _ (publishRefused _) _ (λ z. c .if1 .taken (fault-is (c .before) ∙ z))))
+returns c = rw (fault-is (c .before)) (sym (answered-refused _ _ (publishRefused _) _ (λ z. c .if1 .taken (fault-is (c .before) ∙ z))))
 
 mul-e : tie.Need-mul-e
 mul-e c = omega (arith, inside c .below-16)
@@ -38,7 +47,7 @@ is-sealed-requires c κs = search needs
 
 returns-2 : tie.Need-returns-2
 unfolding publishReply publishFault
-returns-2 c = rw (sym (c .before .is-sealed .ensures) ∙ not-true _ (c .if2 .taken)) (sym (by-next _ _ (publishRefused _) _ (passed (c .before .before .before)) (λ z. omega arith)))
+returns-2 c = rw (not-sealed c) (sym (answered-next _ _ (publishRefused _) _ (passed (c .before .before .before)) (λ z. omega arith)))
 
 add-end : tie.Need-add-end
 add-end c = omega (arith, clock-moves _ (inside (c .before .before .before) .coherent))
@@ -54,7 +63,7 @@ element-set-from-published c = inside (c .before .before .before .before) .below
 
 returns-3 : tie.Need-returns-3
 unfolding publishReply publishFault
-returns-3 c = rw (c .with-phase .ensures, sym ((c .before .before) .is-sealed .ensures) ∙ not-false _ ((c .before) .if2 .left)) (sym (by-none _ _ (publishRefused _) _ (passed (c .before .before .before .before)) refl))
+returns-3 c = rw (c .with-phase .ensures, was-sealed (c .before)) (sym (answered-done _ _ (publishRefused _) _ (passed (c .before .before .before .before)) refl))
 
 pub publish-spec : {M : Type 1} → statement M
 publish-spec =
