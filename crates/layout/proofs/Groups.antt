@@ -128,6 +128,10 @@ pub length-stores : (ws : List Write) → length (stores ws) ≡ length ws
 length-stores [] = refl
 length-stores (x ∷ ws) = ap suc (length-stores ws)
 
+pub stores-append : (xs ys : List Write) → stores (xs ++ ys) ≡ stores xs ++ stores ys
+stores-append [] ys = refl
+stores-append (x ∷ xs) ys = ap (λ l. store (x .0) (x .1) ∷ l) (stores-append xs ys)
+
 -- ---- entries
 
 not-again : (i : ℕ) (ws : List Write) (es : List Entry) → Absent i ws → notAgain i (stores ws ++ (fence ∷ es)) ≡ true

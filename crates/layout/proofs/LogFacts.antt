@@ -19,7 +19,7 @@ pub record Sound (n : ℕ) (f : Slot) : Type 0 where
 abbrev pub BadPlace : ℕ → Slot → ℕ → Type 0
 BadPlace n f j = (j < countOf f) × ((n ≤ recOf f j) ⊎ ((i : ℕ) × (i < j) × (recOf f i ≡ recOf f j)))
 
-says-unsound : (n : ℕ) (f : Slot) → Says (unsoundB n f) ((f 0 ≡ 0 → ⊥) × (((countOf f ≡ 0) ⊎ (4 < countOf f)) ⊎ ((j : ℕ) × (j < 4) × BadPlace n f j)))
+pub says-unsound : (n : ℕ) (f : Slot) → Says (unsoundB n f) ((f 0 ≡ 0 → ⊥) × (((countOf f ≡ 0) ⊎ (4 < countOf f)) ⊎ ((j : ℕ) × (j < 4) × BadPlace n f j)))
 unfolding unsoundB
 says-unsound n f =
     says-and (says-ne (f 0) 0)

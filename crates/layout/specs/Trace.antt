@@ -5,9 +5,9 @@ use Prim.Native.Nat.{ℕ, suc, _+_, _*_, _-_, _≤_, _<_, _^_}
 use native.Mathlib.Nat.{zero-add}
 use native.Mathlib.Numerals.{add-one}
 use native.Mathlib.Omega.{arith}
-use lib.ListN.{length, set, take, drop, length-append, length-drop, take-append-drop, drop-of-length-le}
+use lib.ListN.{length, getD, set, take, drop, length-append, length-drop, take-append-drop, drop-of-length-le}
 use lib.Seq.{sets, take-all, sets-eq, take-set-le, drop-set-add}
-use Rattle.layout.specs.Entries.{Entry, store, fence, made, encoded, listed, shift}
+use Rattle.layout.specs.Entries.{Entry, store, fence, Write, made, encoded, listed, shift}
 
 -- the entries listed one by one from trace word `at` on, as the code does it
 abbrev pub written : ℕ → List Entry → List ℕ → List ℕ
@@ -17,6 +17,10 @@ written at (fence ∷ es) t = written (at + 2) es (set (set t at 0xffff_ffff_fff
 
 add-two : (n : ℕ) → n + 2 ≡ suc (suc n)
 add-two n = omega arith
+
+-- the writes of a record's four words from index i on
+abbrev pub wordWrites : ℕ → List ℕ → List Write
+wordWrites i ws = (i, getD ws 0 0) ∷ (i + 1, getD ws 1 0) ∷ (i + 2, getD ws 2 0) ∷ (i + 3, getD ws 3 0) ∷ []
 
 -- n stores from word i of the part, listed from word `at` of the trace, are in range
 pub record Room (n base i at : ℕ) (part trace : List ℕ) : Type 0 where

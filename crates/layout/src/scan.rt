@@ -11,7 +11,8 @@ pub struct Oldest {
     pub place: u64,
 }
 
-fn older(best: Oldest, persist: u64, place: u64) -> Oldest
+// The oldest log so far, or the slot at a place if it is occupied and older.
+pub fn older(best: Oldest, persist: u64, place: u64) -> Oldest
     ensures { λ r. ⌜ r ≡ olderOf best persist place ⌝ }
 {
     if persist == 0 {

@@ -1,17 +1,20 @@
 -- What holds of image, desk, trace and session once the common checks have passed.
-use Prim.Native.Nat.{ℕ, _<_}
+use Prim.Native.Nat.{ℕ, _+_, _<_, _≤_}
 use mathlib.Core.Bool.{Bool, true, _&&_}
 use mathlib.Core.Path.{_≡_}
 use mathlib.Core.List.{List}
 use native.Mathlib.Omega.{arith}
 use lib.Dec.{ltb, eqb}
+use lib.ListN.{length}
 use borrow.Author.Tests.{ltb-true}
 use Rattle.layout.specs.Checks.{common-of}
-use Rattle.layout.specs.Image.{recordsOf, sessionsOf, shapedB}
+use Rattle.layout.specs.Image.{recordsOf, sessionsOf, shapedB, homeAt}
 use Rattle.layout.proofs.Says.{says-and, says-eq}
 use Rattle.layout.proofs.Shape.{Shaped, says-shaped}
 use Rattle.desk.specs.Coherent.{coherentB}
+use Rattle.desk.specs.Desk.{copiedRec, sessionAt}
 use Rattle.desk.specs.declared.state.Desk.{Desk}
+use Rattle.desk.proofs.Copied.{copies-below}
 use Rattle.desk.proofs.Facts.{Coherent, says-coherent}
 use Rattle.store.specs.Session.{entryFault, imageFault}
 
@@ -39,3 +42,10 @@ entered img d room s e =
       below = l;
       small = omega (arith, t .0 .0 .m-high, l);
     }
+
+-- the session's copies are of small records, whose homes are in the image
+pub homes-inside : {img : List ℕ} {d : Desk} {room : Bool} {s : ℕ} → Entered img d room s → (j : ℕ) → j < sessionAt d s .count
+    → (copiedRec (sessionAt d s) j < 256) × (homeAt (copiedRec (sessionAt d s) j) + 4 ≤ length img)
+homes-inside {img} {d} {room} {s} f j l =
+    let b = copies-below d (f .coherent) s (f .small) j l in
+    (omega (arith, b, f .coherent .n-high), omega (arith, b, f .n-same, f .shaped .size))

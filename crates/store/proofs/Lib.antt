@@ -2,5 +2,9 @@ pub mod Entered
 pub mod Lists
 pub mod OwnPlace
 pub mod RecordEntered
+pub mod Stored
 pub mod ReadLaws
 pub mod WriteLaws
+pub mod FinishLaws
+pub mod SettleLaws
+pub mod ReclaimLaws

@@ -2,6 +2,7 @@
 mod copies;
 mod entering;
 mod finishing;
+mod homes;
 mod opening;
 mod reading;
 mod reclaiming;
@@ -11,6 +12,7 @@ mod writing;
 
 pub use finishing::FinishAnswer;
 pub use finishing::FinishReply;
+pub use finishing::finish;
 pub use opening::OpenAnswer;
 pub use opening::OpenReply;
 pub use opening::open;
@@ -19,10 +21,12 @@ pub use reading::ReadReply;
 pub use reading::read;
 pub use reclaiming::ReclaimAnswer;
 pub use reclaiming::ReclaimReply;
+pub use reclaiming::reclaim;
 pub use recovering::RecoverAnswer;
 pub use recovering::RecoverReply;
 pub use settling::SettleAnswer;
 pub use settling::SettleReply;
+pub use settling::settle;
 pub use writing::WriteAnswer;
 pub use writing::WriteReply;
 pub use writing::write;

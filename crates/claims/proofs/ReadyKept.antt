@@ -1,0 +1,66 @@
+-- Image and desk stay ready along the calls of the store.
+use Prim.Native.Nat.{ℕ, _+_, _*_, _<_}
+use mathlib.Core.Path.{_≡_, refl, _∙_}
+use mathlib.Core.List.{List}
+use native.Mathlib.Omega.{arith}
+use lib.ListN.{getD, length}
+use Rattle.layout.specs.Image.{recordsOf, sessionsOf}
+use Rattle.layout.proofs.Shape.{says-shaped}
+use Rattle.desk.specs.declared.state.Desk.{Desk}
+use Rattle.claims.specs.Call.{Call, begin, read, write, abandon, finish, publish, settle, reclaim}
+use Rattle.claims.specs.Rules.{storeRules}
+use Rattle.claims.specs.Run.{World, deskAfter}
+use Rattle.claims.proofs.Recovering.{Whole}
+use Rattle.claims.proofs.Simulation.{Ready}
+use Rattle.claims.proofs.Steady.{Steady, Kept}
+use Rattle.claims.proofs.SteadyCalls.{begin-kept, abandon-kept, publish-kept, write-kept, finish-kept, settle-kept, read-desk, reclaim-desk}
+
+-- an image of the same length with the same header words is as whole
+pub whole-again : (N M : ℕ) (img img′ : List ℕ) → Whole N M img → ((j : ℕ) → j < 4 → getD img′ j 0 ≡ getD img j 0) → length img′ ≡ 4 + 4 * N + 44 * M → Whole N M img′
+whole-again N M img img′ h low long =
+    let s = says-shaped img .yes (h .shaped) in
+    let n : recordsOf img′ ≡ recordsOf img = low 1 (omega arith) in
+    let m : sessionsOf img′ ≡ sessionsOf img = low 2 (omega arith) in
+    record {
+      shaped =
+          says-shaped img′ .no
+          (record { mark = low 0 (omega arith) ∙ s .mark; range = rw (n, m) (s .range); size = long ∙ omega (arith, n, m, h .records, h .sessions) });
+      records = n ∙ h .records;
+      sessions = m ∙ h .sessions;
+    }
+
+pub whole-of : (N M : ℕ) (img : List ℕ) (d : Desk) → Ready N M img d → Whole N M img
+whole-of N M img d h = record { shaped = h .shaped; records = h .records; sessions = h .sessions }
+
+steady-of : (N M : ℕ) (img : List ℕ) (d : Desk) → Ready N M img d → Steady d
+steady-of N M img d h = record { coherent = h .coherent; sized = record { holders = h .holders-long; sessions = h .sessions-long; copies = h .copies-long } }
+
+stays : (d e : Desk) → Steady d → e ≡ d → Kept d e
+stays d e h q = rw q (record { steady = h; n-same = refl; m-same = refl })
+
+-- every call keeps the desk steady
+desk-kept : (w : World) (c : Call) → Steady (w .desk) → Kept (w .desk) (deskAfter storeRules w c)
+unfolding deskAfter
+desk-kept w (begin s) h = begin-kept (w .desk) s h
+desk-kept w (read s r) h = stays (w .desk) _ h (read-desk (w .image) (w .desk) s r)
+desk-kept w (write s r ws) h = write-kept (w .image) (w .desk) s r ws h
+desk-kept w (abandon s) h = abandon-kept (w .desk) s h
+desk-kept w (finish len s) h = finish-kept (w .image) (w .desk) len s h
+desk-kept w (publish s) h = publish-kept (w .desk) s h
+desk-kept w (settle len s) h = settle-kept (w .image) (w .desk) len s h
+desk-kept w (reclaim len s) h = stays (w .desk) _ h (reclaim-desk (w .image) (w .desk) len s)
+
+pub ready-kept : (N M : ℕ) (w : World) (c : Call) (img′ : List ℕ) → Ready N M (w .image) (w .desk) → Whole N M img′ → Ready N M img′ (deskAfter storeRules w c)
+ready-kept N M w c img′ h g =
+    let k = desk-kept w c (steady-of N M (w .image) (w .desk) h) in
+    record {
+      shaped = g .shaped;
+      records = g .records;
+      sessions = g .sessions;
+      n-same = k .n-same ∙ h .n-same;
+      m-same = k .m-same ∙ h .m-same;
+      coherent = k .steady .coherent;
+      holders-long = k .steady .sized .holders;
+      sessions-long = k .steady .sized .sessions;
+      copies-long = k .steady .sized .copies;
+    }

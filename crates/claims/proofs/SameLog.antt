@@ -1,0 +1,148 @@
+-- Layout reads a slot word by word, history its body as a list: both find one count, the same records and writes, and one oldest log.
+use Prim.Native.Nat.{ℕ, zero, suc, _+_, _*_, _≤_, _<_}
+use mathlib.Core.Bool.{Bool, true, false, not, cond}
+use mathlib.Core.Path.{_≡_, refl, sym, ap, _∙_, fun-ext}
+use mathlib.Core.Logic.{_≢_}
+use mathlib.Core.List.{List}
+use mathlib.Core.Option.{Option, none, some}
+use native.Mathlib.Decide.{ℕ-discrete, decLt}
+use native.Mathlib.Nat.{add-zero}
+use native.Mathlib.Omega.{arith}
+use lib.Dec.{eqb}
+use lib.ListN.{getD, drop}
+use lib.Seq.{getD-take, getD-drop}
+use Rattle.layout.specs.Below.{countBelow}
+use Rattle.layout.specs.Image.{slotWord, persistAt, occupiedAt}
+use Rattle.layout.specs.Log.{Slot, countOf, recOf, wordsOf, homesWrites, denoted as denotedOf, unsoundB, tiedB, sharedB}
+use Rattle.layout.specs.declared.scan.Oldest.{Oldest}
+use Rattle.layout.proofs.Says.{Says, says-lt, says-eq, says-ne, says-and, says-any, says-not, by-case}
+use Rattle.layout.proofs.Least.{Least}
+use Rattle.layout.proofs.LogFacts.{Sound as SoundSlot, says-unsound}
+use Rattle.history.specs.Log.{State, busy}
+use Rattle.history.specs.Layout.{base, body, count, rec, word, copy, copies, denoted, view, Sound}
+use Rattle.history.proofs.Choice.{Best}
+
+module _ (N : ℕ) (img : List ℕ) (p : ℕ) where
+  -- the body is the slot's words behind its persist number
+  body-word : (j : ℕ) → j < 21 → getD (body N img p) j 0 ≡ slotWord img N p (1 + j)
+  body-word j l =
+      getD-take 21 (drop (base N p + 1) img) j 0 l ∙ getD-drop (base N p + 1) img j 0 ∙ ap (λ i. getD img i 0) (omega arith)
+
+  -- the count of copies
+  pub same-count : count (body N img p) ≡ countOf (slotWord img N p)
+  same-count = body-word 0 (omega arith)
+
+  -- the record at place k, and its words
+  pub same-rec : (k : ℕ) → k < 4 → rec (body N img p) k ≡ recOf (slotWord img N p) k
+  same-rec k l = body-word (1 + 5 * k) (omega arith) ∙ ap (slotWord img N p) (omega arith)
+
+  same-word : (k j : ℕ) → k < 4 → j < 4 → word (body N img p) k j ≡ slotWord img N p (2 + 5 * k + (1 + j))
+  same-word k j l m = body-word (2 + 5 * k + j) (omega arith) ∙ ap (slotWord img N p) (omega arith)
+
+  -- the writes of the first c places, and of a log
+  same-copies : (c : ℕ) → c ≤ 4 → copies (body N img p) c ≡ homesWrites (recOf (slotWord img N p)) (wordsOf (slotWord img N p)) c
+  unfolding copies copy homesWrites
+  same-copies zero l = refl
+  same-copies (suc c) l =
+      rw (
+        same-copies c (omega arith),
+        same-rec c (omega arith),
+        same-word c 0 (omega arith) (omega arith),
+        same-word c 1 (omega arith) (omega arith),
+        same-word c 2 (omega arith) (omega arith),
+        same-word c 3 (omega arith) (omega arith),
+      )
+
+  pub same-log : count (body N img p) ≤ 4 → denoted (body N img p) ≡ denotedOf (slotWord img N p)
+  unfolding denoted
+  same-log l = same-copies (count (body N img p)) l ∙ ap (homesWrites (recOf (slotWord img N p)) (wordsOf (slotWord img N p))) same-count
+
+  -- a body that is sound is a sound slot
+  pub same-sound : Sound N (body N img p) → SoundSlot N (slotWord img N p)
+  same-sound s =
+      record {
+        at-least = omega (arith, same-count);
+        at-most = omega (arith, same-count);
+        below = λ j l. omega (arith, same-rec j (four j l), s .below j (used j l));
+        differ = λ i j l m e.
+            let m′ : i < countOf (slotWord img N p) = omega arith in
+            let q : i ≡ j = s .different i j (used i m′) (used j m) (same-rec i (four i m′) ∙ e ∙ sym (same-rec j (four j m))) in
+            omega arith;
+      }
+    where
+      used : (j : ℕ) → j < countOf (slotWord img N p) → j < count (body N img p)
+      used j l = omega (arith, same-count)
+
+      four : (j : ℕ) → j < countOf (slotWord img N p) → j < 4
+      four j l = omega (arith, same-count)
+
+-- a slot whose log is sound where it is occupied passes check 12
+pub sound-passes : (n : ℕ) (f : Slot) → ((f 0 ≡ 0 → ⊥) → SoundSlot n f) → unsoundB n f ≡ false
+sound-passes n f sound =
+    says-not (says-unsound n f)
+    (λ u. let s = sound (u .0) in
+    by-case (u .1)
+    (λ c. by-case c (λ z. omega (arith, s .at-least)) (λ m. omega (arith, s .at-most)))
+    (λ j. by-case (j .2 .1) (λ h. omega (arith, s .below (j .0) (j .2 .0))) (λ i. s .differ (i .0) (j .0) (i .1) (j .2 .0) (i .2))))
+
+-- what check 13 finds in two slots: both occupied, with one persist number, and a place of each in use, with one record
+abbrev pub Tied : Slot → Slot → Type 0
+Tied f g =
+    ((f 0 ≡ 0 → ⊥) × (f 0 ≡ g 0)) × ((j : ℕ) × (j < 4) × ((j < countOf f) × ((i : ℕ) × (i < 4) × ((i < countOf g) × (recOf g i ≡ recOf f j)))))
+
+pub says-tied : (f g : Slot) → Says (tiedB f g) (Tied f g)
+unfolding sharedB
+says-tied f g =
+    says-and (says-and (says-ne (f 0) 0) (says-eq (f 0) (g 0)))
+    (says-any 4 (λ j. says-and (says-lt j (countOf f)) (says-any 4 (λ i. says-and (says-lt i (countOf g)) (says-eq (recOf g i) (recOf f j))))))
+
+-- what layout's oldest log b is where history's stands in slot o; none, where there is none
+abbrev pub Agrees : State → Option ℕ → Oldest → Type 0
+Agrees s none b = b .persist ≡ 0
+Agrees s (some p) b = (b .place ≡ p) × (b .persist ≡ s .number p) × (b .persist ≢ 0)
+
+-- each is the least number, at the lowest place that has it
+pub agrees : (s : State) (k : ℕ) (o : Option ℕ) (b : Oldest) → Best s k o → Least (s .number) k b → Agrees s o b
+agrees s k none b c l = go (ℕ-discrete (b .persist) 0)
+  where
+    go : Dec (b .persist ≡ 0) → b .persist ≡ 0
+    go (yes e) = e
+    go (no n) = let r = l .some n in sym (r .1) ∙ c (b .place) (r .0)
+agrees s k (some p) b f l = (same, sym (found .1) ∙ ap (s .number) same, nonzero)
+  where
+    nonzero : b .persist ≢ 0
+    nonzero e = f .found .occupied .1 (l .none e p (f .found .occupied .0))
+
+    found : (b .place < k) × (s .number (b .place) ≡ b .persist)
+    found = l .some nonzero
+
+    taken : s .number (b .place) ≢ 0
+    taken e = nonzero (sym (found .1) ∙ e)
+
+    same : b .place ≡ p
+    same =
+        elim (decLt (b .place) p) [
+          | yes lt ↦ absurd (omega (arith, found .1, f .earlier (b .place) lt taken, l .least p (f .found .occupied .0) (f .found .occupied .1)))
+          | no ge ↦ elim (decLt p (b .place)) [
+            | yes lt ↦ absurd (omega (arith, found .1, l .first nonzero p lt (f .found .occupied .1), f .found .least (b .place) (found .0, taken)))
+            | no le ↦ omega arith
+          ]
+        ]
+
+-- the slots' persist numbers
+pub same-numbers : (N : ℕ) (img : List ℕ) → persistAt img N ≡ view N img .number
+same-numbers N img = fun-ext (λ p. rw add-zero)
+
+-- how many of the first k slots are occupied
+busy-count : (f : ℕ → ℕ) (k : ℕ) → busy f k ≡ countBelow k (λ p. not (eqb (f p) 0))
+unfolding busy countBelow
+busy-count f zero = refl
+busy-count f (suc k) = go (eqb (f k) 0) (busy-count f k)
+  where
+    go : (b : Bool) → busy f k ≡ countBelow k (λ p. not (eqb (f p) 0))
+        → cond b (busy f k) (suc (busy f k)) ≡ countBelow k (λ p. not (eqb (f p) 0)) + cond (not b) 1 0
+    go true e = omega arith
+    go false e = omega arith
+
+pub same-busy : (N : ℕ) (img : List ℕ) (k : ℕ) → busy (view N img .number) k ≡ countBelow k (occupiedAt img N)
+same-busy N img k = ap (λ f. busy f k) (sym (same-numbers N img)) ∙ busy-count (persistAt img N) k

@@ -1,0 +1,165 @@
+-- Every call keeps the desk steady.
+use Prim.Native.Nat.{ℕ, zero, suc, _+_, _<_, _≤_}
+use mathlib.Core.Bool.{true, _&&_}
+use mathlib.Core.List.{List}
+use mathlib.Core.Path.{_≡_, refl, ap}
+use mathlib.Core.Logic.{inl, inr}
+use native.Mathlib.Omega.{arith}
+use lib.Dec.{ltb, eqb}
+use lib.ListN.{getD-replicate}
+use borrow.Author.Tests.{ltb-true, eqb-true, eqb-false}
+use Rattle.layout.specs.Below.{count-most}
+use Rattle.layout.specs.Checks.{unless, first, answered, first-both, unless-zero, common-most}
+use Rattle.layout.specs.Image.{recordsOf, sessionsOf, shapedB}
+use Rattle.layout.proofs.Says.{by-test}
+use Rattle.desk.specs.Desk.{noSession, sessionAt, isActive, idleSession, unmarked}
+use Rattle.desk.specs.Coherent.{limit, sealedAt, coherentB}
+use Rattle.desk.specs.Begin.{beginFault, beginRefused, begun, beginReply}
+use Rattle.desk.specs.Abandon.{abandonFault, abandonRefused, abandoned, abandonReply}
+use Rattle.desk.specs.Publish.{publishFault, publishRefused, published, publishReply}
+use Rattle.desk.specs.declared.state.Phase.the-variants.{Active, Sealed, Published}
+use Rattle.desk.specs.declared.state.Desk.{Desk}
+use Rattle.desk.proofs.Copied.{copies-four}
+use Rattle.desk.proofs.Entered.{entryFault, entered}
+use Rattle.store.specs.Session.{entryFault as imageEntryFault, imageFault, roomFor, ownPlace}
+use Rattle.store.specs.Open.{freshDesk}
+use Rattle.store.specs.Read.{startOf, copyShown, readFault, readRefused, readDone, readReply}
+use Rattle.store.specs.Write.{ownsB, writeFault, writeRefused, writeDone, writeReply}
+use Rattle.store.specs.Finish.{finishFault, finishRefused, finishDone, finishReply}
+use Rattle.store.specs.Settle.{settleFault, settleRefused, settleDone, waitsB, settleReply}
+use Rattle.store.specs.Reclaim.{reclaimFault, reclaimRefused, reclaimDone, noneLeft, heldB, reclaimReply}
+use Rattle.store.proofs.Entered.{entered as image-entered}
+use Rattle.claims.proofs.Sessions.{idle-in, idle-none, sealed-some}
+use Rattle.claims.proofs.Steady.{Steady, Kept, adds, phase-kept, drop-kept, overwrite-kept, copy-kept}
+
+-- the desk of an opened store, where nothing is marked
+pub fresh-steady : (n m : ℕ) → 1 ≤ n → n ≤ 256 → 1 ≤ m → m ≤ 16 → Steady (freshDesk 1 n m)
+fresh-steady n m n-low n-high m-low m-high =
+    record {
+      coherent =
+          record {
+            clock-low = omega arith;
+            clock-high = omega (arith, count-most (sealedAt (freshDesk 1 n m)) 16);
+            n-low = n-low;
+            n-high = n-high;
+            m-low = m-low;
+            m-high = m-high;
+            session = λ s l. rw (idle s l) (idle-in 1 n);
+            idle = λ s l. inr (rw (idle s l));
+            marks = λ k l.
+                rw (getD-replicate {A = ℕ} 256 k 0 0 l)
+                ((omega arith, λ s u. (λ z. absurd (omega arith), λ c. absurd (idle-none k (rw (idle s u) at c)))), inr refl);
+          };
+      sized = record { holders = refl; sessions = refl; copies = λ s l. rw (idle s l) };
+    }
+  where
+    -- every session is idle
+    idle : (s : ℕ) → s < 16 → sessionAt (freshDesk 1 n m) s ≡ idleSession
+    idle s l = getD-replicate 16 s idleSession noSession l
+
+-- what holds of a call's refusal and of what it does holds of its answer
+by-answer : {A : Type 0} (P : A → Type 0) (k : ℕ) (f : ℕ → A) (a : A) → P (f k) → (k ≡ 0 → P a) → P (answered k f a)
+unfolding answered
+by-answer P zero f a refused done = done refl
+by-answer P (suc k) f a refused done = refused
+
+-- the desk as it was
+unchanged : (d : Desk) → Steady d → Kept d d
+unchanged d h = record { steady = h; n-same = refl; m-same = refl }
+
+-- begin puts the session into another phase
+pub begin-kept : (d : Desk) (s : ℕ) → Steady d → Kept d (beginReply d s .desk)
+unfolding beginReply beginFault
+begin-kept d s h =
+    by-answer (λ r. Kept d (r .desk)) (beginFault d s) (beginRefused d) (begun d s) (unchanged d h)
+    (λ z. let e = entered d s (first-both (entryFault d s) _ z .0) in
+    phase-kept d s h (e .below-m) (Active (d .clock)) (d .clock) (omega arith) (inl (omega arith)) (copies-four d (h .coherent) s (e .below-16)) (h .coherent .clock-low, omega arith))
+
+-- abandon drops the session's marks and copies
+pub abandon-kept : (d : Desk) (s : ℕ) → Steady d → Kept d (abandonReply d s .desk)
+unfolding abandonReply abandonFault
+abandon-kept d s h =
+    by-answer (λ r. Kept d (r .desk)) (abandonFault d s) (abandonRefused d) (abandoned d s) (unchanged d h)
+    (λ z. drop-kept d s h (entered d s (first-both (entryFault d s) _ z .0) .below-m))
+
+-- publish puts the session into another phase; the clock moves on by one, and one session less is sealed
+pub publish-kept : (d : Desk) (s : ℕ) → Steady d → Kept d (publishReply d s .desk)
+unfolding publishReply publishFault
+publish-kept d s h =
+    by-answer (λ r. Kept d (r .desk)) (publishFault d s) (publishRefused d) (published d s) (unchanged d h)
+    (λ z. let f = first-both (entryFault d s) _ z in
+    let e = entered d s (f .0) in
+    let sealed = unless-zero (sealedAt d s) 5 (f .1) in
+    let a = ap adds sealed in
+    phase-kept d s h (e .below-m) (Published (d .clock + 1)) (d .clock + 1) (omega arith) (inl (omega arith))
+    (sealed-some (sessionAt d s .phase) (sessionAt d s .count) sealed (h .coherent .session s (e .below-16) .count), copies-four d (h .coherent) s (e .below-16))
+    (omega (arith, h .coherent .clock-low), omega arith))
+
+-- checks that refuse with a number above those of the first ones have passed these
+first-passed : (a b k : ℕ) → a < k → first a b ≡ k → a ≡ 0
+unfolding first
+first-passed zero b k l q = refl
+first-passed (suc a) b k l q = absurd (omega arith)
+
+-- refused by 7, a write has passed the checks that calls share
+taken-entered : (img : List ℕ) (d : Desk) (s r : ℕ) → writeFault img d s r ≡ 7 → imageFault img d true s ≡ 0
+unfolding writeFault imageEntryFault
+taken-entered img d s r q =
+    let most = common-most (shapedB img) (coherentB d && eqb (d .n) (recordsOf img) && eqb (d .m) (sessionsOf img)) true (ltb s (d .m)) in
+    first-passed (imageFault img d true s) _ 7 (omega arith) q
+
+-- write overwrites an own copy or takes one more; refused by 7 it drops the session's marks and copies
+pub write-kept : (img : List ℕ) (d : Desk) (s r : ℕ) (ws : List ℕ) → Steady d → Kept d (writeReply img d s r ws .desk)
+unfolding writeReply writeFault writeRefused
+write-kept img d s r ws h =
+    by-answer (λ a. Kept d (a .desk)) (writeFault img d s r) (writeRefused d s r) (writeDone img d s r ws)
+    (by-test (eqb (writeFault img d s r) 7)
+    (λ y. rw y (drop-kept d s h (image-entered img d true s (taken-entered img d s r (eqb-true _ _ y)) .below)))
+    (λ y. rw y (unchanged d h)))
+    (λ z. let a = first-both (imageFault img d true s) _ z in
+    let b = first-both (unless (ltb r (d .n)) 5) _ (a .1) in
+    let c = first-both (unless (isActive (sessionAt d s .phase)) 6) _ (b .1) in
+    let low = image-entered img d true s (a .0) .below in
+    let below = ltb-true r (d .n) (unless-zero (ltb r (d .n)) 4 (b .0)) in
+    let active = unless-zero (isActive (sessionAt d s .phase)) 5 (c .0) in
+    by-test (ownsB d s r)
+    (λ y. rw y (overwrite-kept d s h low r ws below active (ltb-true _ _ y)))
+    (λ y. rw y (copy-kept d s h low r ws below active img (rw y at (c .1)))))
+
+-- finish seals a session with copies, below the clock's limit; one without copies has no marks and copies to drop
+pub finish-kept : (img : List ℕ) (d : Desk) (len s : ℕ) → Steady d → Kept d (finishReply img d len s .desk)
+unfolding finishReply finishFault unmarked
+finish-kept img d len s h =
+    by-answer (λ r. Kept d (r .desk)) (finishFault img d len s) (finishRefused d) (finishDone d s) (unchanged d h)
+    (λ z. let f = first-both (imageFault img d (roomFor len) s) _ z in
+    let e = image-entered img d (roomFor len) s (f .0) in
+    let g = first-both (unless (isActive (sessionAt d s .phase)) 6) _ (f .1) in
+    by-test (eqb (sessionAt d s .count) 0)
+    (λ y. let none : sessionAt d s .count ≡ 0 = eqb-true _ _ y in rw y (rw none at (drop-kept d s h (e .below))))
+    (λ y. let some : sessionAt d s .count ≡ 0 → ⊥ = eqb-false _ _ y in
+    let l : d .clock < limit = ltb-true _ _ (unless-zero (ltb (d .clock) limit) 9 (rw y at (g .1))) in
+    rw y
+    (phase-kept d s h (e .below) (Sealed (d .clock)) (d .clock) (omega arith) (inr (omega arith))
+    (omega arith, copies-four d (h .coherent) s (e .small))
+    (h .coherent .clock-low, omega arith))))
+
+-- settle waits, or drops the session's marks and copies
+pub settle-kept : (img : List ℕ) (d : Desk) (len s : ℕ) → Steady d → Kept d (settleReply img d len s .desk)
+unfolding settleReply settleFault
+settle-kept img d len s h =
+    by-answer (λ r. Kept d (r .desk)) (settleFault img d len s) (settleRefused d) (settleDone d s) (unchanged d h)
+    (λ z. by-test (waitsB d s)
+    (λ y. rw y (unchanged d h))
+    (λ y. rw y (drop-kept d s h (image-entered img d (roomFor len) s (first-both (imageFault img d (roomFor len) s) _ z .0) .below))))
+
+-- read leaves the desk as it is
+pub read-desk : (img : List ℕ) (d : Desk) (s r : ℕ) → readReply img d s r .desk ≡ d
+unfolding readReply
+read-desk img d s r = by-answer (λ a. a .desk ≡ d) (readFault img d s r) (readRefused d) (readDone img d s r) refl
+    (λ z. by-test (ltb (ownPlace (sessionAt d s) r) 4) (λ y. rw y) (λ y. by-test (copyShown d (startOf (sessionAt d s .phase)) r) (λ w. rw (y, w)) (λ w. rw (y, w))))
+
+-- reclaim leaves the desk as it is
+pub reclaim-desk : (img : List ℕ) (d : Desk) (len s : ℕ) → reclaimReply img d len s .desk ≡ d
+unfolding reclaimReply
+reclaim-desk img d len s = by-answer (λ a. a .desk ≡ d) (reclaimFault img d len s) (reclaimRefused d) (reclaimDone img d s) refl
+    (λ z. by-test (noneLeft img d s) (λ y. rw y) (λ y. by-test (heldB img d s) (λ w. rw (y, w)) (λ w. rw (y, w))))

@@ -1,0 +1,11 @@
+pub mod Log
+pub mod Batch
+pub mod Layout
+pub mod Recover
+pub mod Publish
+pub mod Desk
+pub mod History
+pub mod Calls
+pub mod Run
+pub mod Ledger
+pub mod Claims
