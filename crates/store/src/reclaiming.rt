@@ -40,7 +40,7 @@ fn settled_number(image: &[u64], n: u64, session: u64, e: Session, q: u64) -> u6
     layout::slot_word(image, n, 2 * session + q, 0)
 }
 
-// The older of the session's two slots, of those that are not left out.
+// The older of the session's slots that are not left out; its place is 0 or 1.
 fn older_slot(image: &[u64], n: u64, session: u64, e: Session) -> Oldest
     requires { ⌜ (n ≤ 256) × (session < 16) ⌝ }
     ensures { λ r. ⌜ r ≡ oldestOf (λ q. cond (inUse e q) 0 (persistAt (now (image .entry)) n (placeOf session q))) 2 ⌝ }

@@ -1,0 +1,829 @@
+"""Raw cases: one call each, on images and desks that no stream reaches, and
+what the call must answer and leave.
+
+    python3 raw.py in SEED COUNT [narrow] > cases     inputs of COUNT cases
+    python3 raw.py want SEED COUNT [narrow] > lines   what they must give
+    python3 raw.py count SEED COUNT [narrow]          cases by call and answer
+    python3 raw.py show SEED CASE [narrow]            one case in full, as text
+
+A case depends on the seed, its own number (from 0) and the word narrow
+alone. With narrow the desk fields fit small types: marks, counts and slots
+8 bits, N, M and copied records 16 bits.
+
+INPUT. 64-bit words, lowest byte first, case after case up to the end of file:
+    word  0       call: 0 lay, 1 begin, 2 read, 3 write, 4 finish, 5 publish,
+                  6 settle, 7 reclaim, 8 abandon, 9 open, 10 recover
+    words 1, 2    N and M, for lay
+    words 3, 4    session and record
+    words 5-8     the four words, for write
+    word  9       strip length in words, at most 64
+    word  10      image length in words, at most 1800
+    words 11-653  the desk, 643 words (below)
+    then          the image words
+Fields that the call does not take are 0. Word i of the strip before the call
+is 0xA5A5A5A500000000 + i.
+
+A DESK is 643 words: clock, N, M; 256 marks (0 none, else session + 1); 16
+session entries of 24 words: phase (0 idle, 1 active, 2 sealed, 3 published),
+its number (0 when idle), count of copies, slot, 4 places of 5 words (record,
+four words).
+
+WANT. One line of text a case, 12 decimal fields parted by one space:
+    case, call, answer, value, four words, entries,
+    digest of the image, digest of the strip, digest of the desk
+The answer is the refusal's number, or 20 ok, 21 start, 22 own, 23 copy,
+24 home, 25 empty, 26 sealed, 27 end, 28 wait, 29 none, 30 held, 31 cleared,
+32 clean, 33 replayed. The value goes with start, sealed, end, wait, held,
+cleared, replayed, 7 and 12, the four words with own, copy and home; unused
+fields are 0. Entries is their number; they stand at the front of the strip.
+The digests are of what the call leaves, refused or not; 0 where the call
+takes no such part (lay: image alone; begin, publish, abandon: desk alone;
+open: image and the desk it gives; read, write: image and desk; recover:
+image and strip).
+
+DIGEST of k words, modulo 2 to the 64th: d = k at first, then for each word
+    d = d * 6364136223846793005 + word + 1442695040888963407
+"""
+
+import copy
+import random
+import struct
+import sys
+from collections import Counter
+
+import store
+from store import L
+
+TOP = 2 ** 64 - 1
+CALLS = ["lay", "begin", "read", "write", "finish", "publish", "settle",
+         "reclaim", "abandon", "open", "recover"]
+PHASES = ["idle", "active", "sealed", "published"]
+ANSWERS = ["ok", "start", "own", "copy", "home", "empty", "sealed", "end", "wait",
+           "none", "held", "cleared", "clean", "replayed"]
+WITH_DESK = CALLS[1:9]
+WITH_IMAGE = [c for c in CALLS if c not in ("begin", "publish", "abandon")]
+WITH_STRIP = ["finish", "settle", "reclaim", "recover"]
+WITH_RECORD = ["read", "write"]
+
+
+# ---- running and encoding a case -----------------------------------------
+
+def run(case):
+    """Makes the call of a case on the model."""
+    call, image, desk, strip, session = (case[k] for k in ("call", "image", "desk", "strip", "session"))
+    if call == "lay":
+        return store.lay(case["N"], case["M"], image)
+    if call == "open":
+        return store.open_image(image)
+    if call == "recover":
+        return store.recover(image, strip)
+    if call == "read":
+        return store.read(image, desk, session, case["record"])
+    if call == "write":
+        return store.write(image, desk, session, case["record"], case["words"])
+    if call in WITH_STRIP:
+        return getattr(store, call)(image, desk, strip, session)
+    return getattr(store, call)(desk, session)
+
+
+def desk_words(desk):
+    """The 643 words of a desk; zeros for none."""
+    if desk is None:
+        return [0] * 643
+    out = [desk["clock"], desk["N"], desk["M"]]
+    out += [0 if mark is None else mark + 1 for mark in desk["marks"]]
+    for e in desk["sessions"]:
+        out += [PHASES.index(e["phase"]), e["number"], e["count"], e["slot"]]
+        for record, words in e["places"]:
+            out += [record] + words
+    return out
+
+
+def case_words(case):
+    head = [CALLS.index(case["call"]), case["N"], case["M"], case["session"], case["record"]]
+    image = case["image"] or []
+    return (head + case["words"] + [case["strip"], len(image)]
+            + desk_words(case["desk"]) + image)
+
+
+def strip_before(case):
+    return [0xA5A5A5A500000000 + i for i in range(case["strip"])]
+
+
+def answer_number(answer):
+    if answer["name"] == "no":
+        return answer["number"]
+    return 20 + ANSWERS.index(answer["name"])
+
+
+def digest(words):
+    d = len(words)
+    for word in words:
+        d = (d * 6364136223846793005 + word + 1442695040888963407) & TOP
+    return d
+
+
+def want_line(number, case):
+    """The line of a case."""
+    done = run(case)
+    call, answer = case["call"], done["answer"]
+    strip = store.strip_after(strip_before(case), done["entries"])
+    fields = [number, CALLS.index(call), answer_number(answer), answer["value"]]
+    fields += answer["words"] + [len(done["entries"])]
+    fields.append(digest(done["image"]) if call in WITH_IMAGE else 0)
+    fields.append(digest(strip) if call in WITH_STRIP else 0)
+    fields.append(digest(desk_words(done["desk"])) if call in WITH_DESK + ["open"] else 0)
+    return " ".join(str(field) for field in fields)
+
+
+# ---- images --------------------------------------------------------------
+
+SIZES = [(1, 1), (1, 2), (2, 1), (2, 2), (3, 3), (5, 2), (8, 4), (12, 3), (9, 16)] * 3 + [
+    (256, 16), (256, 1), (1, 16), (255, 2)]
+
+
+def some_word(rng):
+    return rng.choice([0, 1, rng.randrange(300), TOP, rng.getrandbits(64)])
+
+
+def log_words(rng, n, number, records):
+    """An occupied slot with these records; anything past the count."""
+    words = [number, len(records)]
+    for record in records:
+        words += [record] + [some_word(rng) for _ in range(4)]
+    return words + [some_word(rng) for _ in range(22 - len(words))]
+
+
+def empty_words(rng):
+    """In an empty slot words 1 to 21 may hold anything."""
+    if rng.random() < 0.4:
+        return [0] * 22
+    return [0, rng.choice([0, 1, 5, TOP])] + [some_word(rng) for _ in range(20)]
+
+
+def some_records(rng, n):
+    return rng.sample(range(n), rng.randrange(1, 1 + min(4, n)))
+
+
+def spoil_log(rng, n, words):
+    """Makes an occupied slot one that recover turns away."""
+    way = rng.randrange(4)
+    if way == 0:
+        words[1] = rng.choice([0, 5, 6, 255, 2 ** 32, TOP])
+    elif way == 1:  # a record at or above N, in any used place
+        words[2 + 5 * rng.randrange(words[1])] = rng.choice([n, n + 1, 256, 2 ** 62, TOP])
+    elif way == 2:  # a record twice
+        words[1] = 4
+        a, b = rng.sample(range(4), 2)
+        words[2::5] = some_four(rng, n)
+        words[2 + 5 * a] = words[2 + 5 * b]
+    else:  # the last place of a full log
+        words[1] = 4
+        words[2::5] = some_four(rng, n)
+        words[17] = rng.choice([n, TOP, words[2]])
+
+
+def some_four(rng, n):
+    """Four records below N, different where N allows."""
+    return rng.sample(range(n), 4) if n >= 4 else [rng.randrange(n) for _ in range(4)]
+
+
+def some_numbers(rng):
+    """A small pool of persist numbers, so that equal ones are common."""
+    return [rng.choice([1, 2, 3, rng.randrange(1, 50), L - 1, L, L + 16, TOP,
+                        rng.getrandbits(64) or 1]) for _ in range(rng.randrange(1, 5))]
+
+
+def image_of(rng, n, m, slots):
+    """Header, home records, slots; header word 3 is anything."""
+    head = [1, n, m, some_word(rng)]
+    return head + [some_word(rng) for _ in range(4 * n)] + [w for slot in slots for w in slot]
+
+
+def some_image(rng, n, m, desk):
+    """An image for session calls: its logs may be in any state."""
+    pool = some_numbers(rng) + [e["number"] for e in desk["sessions"] if e["number"]]
+    share = rng.choice([0, 0.2, 0.5, 0.8, 1])
+    slots = []
+    for place in range(2 * m):
+        e = desk["sessions"][place // 2]
+        if e["phase"] in ("sealed", "published") and e["slot"] == place % 2 and rng.random() < 0.6:
+            slots.append(log_words(rng, n, rng.choice([e["number"], rng.choice(pool)]),
+                                   [r for r, _ in store.copies_of(e)]))
+        elif rng.random() < share:
+            slots.append(log_words(rng, n, rng.choice(pool), some_records(rng, n)))
+            if rng.random() < 0.2:
+                spoil_log(rng, n, slots[-1])
+        else:
+            slots.append(empty_words(rng))
+    return image_of(rng, n, m, slots)
+
+
+def wrong_image(rng, image):
+    """The image with a wrong length or header, and right otherwise."""
+    image = list(image)
+    way = rng.randrange(8)
+    if way == 0:
+        return image[:-1]
+    if way == 1:
+        return image + [0]
+    if way == 2:
+        return image[:rng.randrange(5)]
+    if way == 3:
+        image[0] = rng.choice([0, 2, TOP])
+    elif way == 4:
+        image[1] = rng.choice([0, 257, image[1] + 1, image[1] - 1, image[1] + 2 ** 62, TOP])
+    elif way == 5:
+        image[2] = rng.choice([0, 17, image[2] + 1, image[2] - 1, image[2] + 2 ** 62, TOP])
+    elif way == 6:  # out of range, yet the length fits
+        n, m = rng.choice([(257, 1), (1, 17), (0, 1), (1, 0), (257, 16), (256, 17)])
+        return [1, n, m, 0] + [0] * (4 * n + 44 * m)
+    else:
+        return image[:4] + image[4 + 44:] if len(image) > 60 else image + [0] * 44
+    return image
+
+
+# ---- coherent desks ------------------------------------------------------
+
+def some_clock(rng, sealed, published):
+    """Low, high and the edges; an end number needs a clock of 2 or more."""
+    top = L + 16 - sealed
+    clock = rng.choice([1, 2, 3, 6, rng.randrange(1, 60), rng.randrange(1, L), L - 1, L - 1,
+                        L, min(L + 1, top), top - 1, top, top])
+    return max(clock, 2 if published else 1)
+
+
+def some_phases(rng, n, m):
+    """Phase and count of copies for each session, within N records."""
+    choices = rng.choice([PHASES, PHASES[1:], [rng.choice(PHASES[1:])]])
+    many, chosen = rng.random() < 0.3, []
+    for _ in range(m):
+        phase = rng.choice(choices)
+        least, most = 0 if phase == "active" else 1, min(4, n)
+        if phase == "idle" or most < least:
+            chosen.append(("idle", 0))
+        else:
+            chosen.append((phase, most if many else rng.randrange(least, most + 1)))
+        n -= chosen[-1][1]
+    return chosen
+
+
+def some_desk(rng, n, m):
+    """A coherent desk in any mix of phases."""
+    chosen = some_phases(rng, n, m)
+    phases = [phase for phase, _ in chosen]
+    clock = some_clock(rng, phases.count("sealed"), "published" in phases)
+    pool = [rng.choice([1, min(2, clock), clock, max(1, clock - 1), rng.randrange(1, clock + 1)])
+            for _ in range(4)]
+    desk, free = store.new_desk(clock, n, m), rng.sample(range(n), n)
+    for session, (phase, count) in enumerate(chosen):
+        if phase == "idle":
+            continue
+        number = max(2 if phase == "published" else 1, rng.choice(pool))
+        copies = [[free.pop(), [some_word(rng) for _ in range(4)]] for _ in range(count)]
+        desk["sessions"][session] = store.entry(phase, number, copies, rng.randrange(2) if count else 0)
+        for record, _ in copies:
+            desk["marks"][record] = session
+    return desk
+
+
+# ---- desks with a rule broken --------------------------------------------
+# Each function alters a desk and returns False where it cannot. The names of
+# the rules that are then broken stand in BREAKS.
+
+def pick(rng, desk, phases, least=0, most=4):
+    """An entry below M in one of these phases with so many copies, or None."""
+    found = [e for e in desk["sessions"][:desk["M"]]
+             if e["phase"] in phases and least <= e["count"] <= most]
+    return rng.choice(found) if found else None
+
+
+def free_record(rng, desk):
+    free = [r for r in range(desk["N"]) if desk["marks"][r] is None]
+    return rng.choice(free) if free else None
+
+
+def clear(desk):
+    desk.update(store.new_desk(desk["clock"], desk["N"], desk["M"]))
+
+
+def clock_zero(rng, desk, wide):
+    clear(desk)
+    desk["clock"] = 0
+
+
+def clock_high(rng, desk, wide):
+    sealed = sum(e["phase"] == "sealed" for e in desk["sessions"])
+    desk["clock"] = L + 17 - sealed + rng.randrange(sealed + 2)
+
+
+def clock_top(rng, desk, wide):
+    desk["clock"] = rng.choice([TOP, TOP - 15, 2 ** 63])
+
+
+def n_zero(rng, desk, wide):
+    clear(desk)
+    desk["N"] = 0
+
+
+def n_high(rng, desk, wide):
+    desk["N"] = rng.choice([257, 258, TOP if wide else 65535])
+
+
+def m_zero(rng, desk, wide):
+    clear(desk)
+    desk["M"] = 0
+
+
+def m_high(rng, desk, wide):
+    desk["M"] = rng.choice([17, 18, TOP if wide else 65535])
+
+
+def n_other(rng, desk, wide):
+    desk["N"] += rng.choice([1, -1, rng.randrange(1, 200)])
+    return 1 <= desk["N"] <= 256
+
+
+def m_other(rng, desk, wide):
+    desk["M"] += rng.choice([1, -1, rng.randrange(1, 16)])
+    return 1 <= desk["M"] <= 16
+
+
+def same_length(rng, desk, wide):
+    """Another N and M that give the same length of the image."""
+    desk["N"], desk["M"] = rng.choice([(desk["N"] + 11, desk["M"] - 1), (desk["N"] - 11, desk["M"] + 1)])
+    return store.in_range(desk["N"], desk["M"])
+
+
+def idle_copy(rng, desk, wide):
+    found = [s for s in range(desk["M"]) if desk["sessions"][s]["phase"] == "idle"]
+    record = free_record(rng, desk)
+    if not found or record is None:
+        return False
+    session = rng.choice(found)
+    desk["sessions"][session] = store.entry("idle", 0, [[record, [1, 2, 3, 4]]], rng.randrange(2))
+    desk["marks"][record] = session
+
+
+def five_copies(rng, desk, wide):
+    e = pick(rng, desk, PHASES[1:], 4)
+    if e is None:
+        return False
+    e["count"] = rng.choice([5, 6, 255, TOP if wide else 255])
+
+
+def no_copies(phase):
+    def alter(rng, desk, wide):
+        e = pick(rng, desk, ["idle", "active"], 0, 0)
+        if e is None:
+            return False
+        e["phase"], e["number"] = phase, min(2, desk["clock"])
+    return alter
+
+
+def number_at(phase, values):
+    def alter(rng, desk, wide):
+        e = pick(rng, desk, [phase])
+        if e is None:
+            return False
+        e["number"] = rng.choice(values(desk["clock"]))
+    return alter
+
+
+def slot_two(rng, desk, wide):
+    e = pick(rng, desk, PHASES[1:], 1)
+    if e is None:
+        return False
+    e["slot"] = rng.choice([2, 3, TOP if wide else 255])
+
+
+def slot_unused(rng, desk, wide):
+    found = [e for e in desk["sessions"] if e["count"] == 0]
+    if not found:
+        return False
+    rng.choice(found)["slot"] = rng.choice([1, 1, 2])
+
+
+def unused(part):
+    def alter(rng, desk, wide):
+        found = [e for e in desk["sessions"] if e["count"] < 4]
+        if not found:
+            return False
+        e = rng.choice(found)
+        place = e["places"][rng.randrange(e["count"], 4)]
+        if part == "record":
+            place[0] = rng.choice([1, desk["N"], TOP if wide else 65535])
+        else:
+            place[1][rng.randrange(4)] = rng.choice([1, TOP])
+    return alter
+
+
+def move_copy(desk, e, record):
+    """One copy of an entry becomes a copy of another record, old mark dropped."""
+    place = e["places"][e["count"] - 1]
+    desk["marks"][place[0]] = None
+    place[0] = record
+
+
+def record_past_marks(rng, desk, wide):
+    e = pick(rng, desk, PHASES[1:], 1)
+    if e is None:
+        return False
+    move_copy(desk, e, rng.choice([256, 257, TOP if wide else 65535]))
+
+
+def record_at_n(marked):
+    def alter(rng, desk, wide):
+        e = pick(rng, desk, PHASES[1:], 1)
+        if e is None or desk["N"] == 256:
+            return False
+        record = rng.choice([desk["N"], 255])
+        move_copy(desk, e, record)
+        if marked:
+            desk["marks"][record] = desk["sessions"].index(e)
+    return alter
+
+
+def record_twice(rng, desk, wide):
+    e = pick(rng, desk, PHASES[1:], 2)
+    if e is None:
+        return False
+    move_copy(desk, e, e["places"][rng.randrange(e["count"] - 1)][0])
+
+
+def mark_missing(rng, desk, wide):
+    e = pick(rng, desk, PHASES[1:], 1)
+    if e is None:
+        return False
+    desk["marks"][e["places"][rng.randrange(e["count"])][0]] = None
+
+
+def mark_other(rng, desk, wide):
+    e = pick(rng, desk, PHASES[1:], 1)
+    if e is None:
+        return False
+    record = e["places"][rng.randrange(e["count"])][0]
+    others = [s for s in range(16) if s != desk["marks"][record]]
+    desk["marks"][record] = rng.choice(others + [16, TOP - 1 if wide else 254])
+
+
+def mark_spare(rng, desk, wide):
+    record = free_record(rng, desk)
+    if record is None:
+        return False
+    desk["marks"][record] = rng.choice([0, desk["M"] - 1, 15, 16, TOP - 1 if wide else 254])
+
+
+def two_copiers(rng, desk, wide):
+    one, other = pick(rng, desk, PHASES[1:], 1), pick(rng, desk, PHASES[1:], 1)
+    if one is None or one is other:
+        return False
+    move_copy(desk, one, other["places"][0][0])
+
+
+def mark_past_n(rng, desk, wide):
+    if desk["N"] == 256:
+        return False
+    desk["marks"][rng.choice([desk["N"], 255])] = rng.randrange(desk["M"])
+
+
+def entry_past_m(phase):
+    def alter(rng, desk, wide):
+        record = free_record(rng, desk)
+        if desk["M"] == 16 or record is None:
+            return False
+        session = rng.choice([desk["M"], 15])
+        copies = [] if phase == "active" else [[record, [1, 0, 0, 0]]]
+        desk["sessions"][session] = store.entry(phase, min(2, desk["clock"]), copies)
+        for r, _ in copies:
+            desk["marks"][r] = session
+    return alter
+
+
+BREAKS = {
+    "clock zero": (clock_zero, ["clock"]),
+    "clock high": (clock_high, ["clock"]),
+    "clock top": (clock_top, ["clock"]),
+    "N zero": (n_zero, ["sizes"]),
+    "N high": (n_high, ["sizes"]),
+    "M zero": (m_zero, ["sizes"]),
+    "M high": (m_high, ["sizes"]),
+    "N not the header's": (n_other, ["sizes"]),
+    "M not the header's": (m_other, ["sizes"]),
+    "same length": (same_length, ["sizes"]),
+    "idle with a copy": (idle_copy, ["counts"]),
+    "five copies": (five_copies, ["counts"]),
+    "sealed without copies": (no_copies("sealed"), ["counts"]),
+    "published without copies": (no_copies("published"), ["counts"]),
+    "start low": (number_at("active", lambda clock: [0]), ["numbers"]),
+    "start high": (number_at("active", lambda clock: [clock + 1, TOP]), ["numbers"]),
+    "persist low": (number_at("sealed", lambda clock: [0]), ["numbers"]),
+    "persist high": (number_at("sealed", lambda clock: [clock + 1, TOP]), ["numbers"]),
+    "end low": (number_at("published", lambda clock: [0, 1]), ["numbers"]),
+    "end high": (number_at("published", lambda clock: [clock + 1, TOP]), ["numbers"]),
+    "slot two": (slot_two, ["slots"]),
+    "slot without copies": (slot_unused, ["slots"]),
+    "unused place, record": (unused("record"), ["unused"]),
+    "unused place, word": (unused("word"), ["unused"]),
+    "record past the marks": (record_past_marks, ["records"]),
+    "record at N, marked": (record_at_n(True), ["records", "rest"]),
+    "record at N, unmarked": (record_at_n(False), ["records", "marks"]),
+    "record twice": (record_twice, ["records"]),
+    "mark missing": (mark_missing, ["marks"]),
+    "mark of another": (mark_other, ["marks"]),
+    "mark to spare": (mark_spare, ["marks"]),
+    "two copiers": (two_copiers, ["marks"]),
+    "mark past N": (mark_past_n, ["marks", "rest"]),
+    "active past M": (entry_past_m("active"), ["rest"]),
+    "sealed past M": (entry_past_m("sealed"), ["rest"]),
+    "published past M": (entry_past_m("published"), ["rest"]),
+}
+NEED_IMAGE = ["N not the header's", "M not the header's", "same length"]
+
+
+def broken_desk(rng, desk, image, name, wide):
+    """A copy of the desk with just these rules broken, or None."""
+    alter, rules = BREAKS[name]
+    desk = copy.deepcopy(desk)
+    if alter(rng, desk, wide) is False:
+        return None
+    return desk if store.broken_rules(desk, image) == rules else None
+
+
+# ---- scenes --------------------------------------------------------------
+
+def session_scene(rng, call):
+    """A session call with right image, coherent desk and arguments in range."""
+    n, m = rng.choice(SIZES)
+    desk = some_desk(rng, n, m)
+    case = blank(call)
+    case["desk"], case["session"] = desk, rng.randrange(m)
+    if call in WITH_IMAGE:
+        case["image"] = some_image(rng, n, m, desk)
+    if call in WITH_STRIP:
+        case["strip"] = rng.choice([48, 48, 49, 50, 64])
+    if call in WITH_RECORD:
+        held = [r for r in range(n) if desk["marks"][r] is not None]
+        case["record"] = rng.choice(held) if held and rng.random() < 0.6 else rng.randrange(n)
+    if call == "write":
+        case["words"] = [some_word(rng) for _ in range(4)]
+    return case
+
+
+def blank(call):
+    return {"call": call, "N": 0, "M": 0, "session": 0, "record": 0, "words": [0] * 4,
+            "strip": 0, "image": None, "desk": None}
+
+
+def lay_scene(rng, aim):
+    case = blank("lay")
+    n, m = rng.choice(SIZES)
+    room = store.length(n, m)
+    case["N"], case["M"] = n, m
+    if aim == 14:
+        case["N"] = rng.choice([0, 257, n + 2 ** 62, TOP, n])
+        case["M"] = rng.choice([0, 17, m + 2 ** 62, TOP, m])
+        room += rng.choice([0, 0, 1])
+    if aim == 1:
+        room = rng.choice([room - 1, room + 1, room + 4, room - 44, 0, 3, 4])
+    case["image"] = [some_word(rng) for _ in range(room)]
+    return case
+
+
+def open_scene(rng, aim):
+    case = blank("open")
+    n, m = rng.choice(SIZES)
+    slots = [empty_words(rng) for _ in range(2 * m)]
+    if aim == 11:
+        for _ in range(rng.randrange(1, 4)):
+            slots[rng.randrange(2 * m)][0] = rng.choice([1, 7, 2 ** 32, 2 ** 63, TOP])
+    case["image"] = image_of(rng, n, m, slots)
+    if aim == 1:
+        case["image"] = wrong_image(rng, case["image"])
+    return case
+
+
+def recover_scene(rng, aim):
+    case = blank("recover")
+    n, m = rng.choice(SIZES)
+    pool, share = some_numbers(rng), rng.choice([0.2, 0.5, 1])
+    if aim == "clean":
+        share = 0
+    slots = [log_words(rng, n, rng.choice(pool), some_records(rng, n))
+             if rng.random() < share else empty_words(rng) for _ in range(2 * m)]
+    logs = [slot for slot in slots if slot[0]]
+    if logs and (aim == 12 or rng.random() < 0.1):
+        for _ in range(rng.choice([1, 1, 2, 3])):
+            spoil_log(rng, n, rng.choice([s for s in logs if 1 <= s[1] <= 4] or [log_words(rng, n, 1, [0])]))
+    if len(logs) > 1 and (aim == 13 or rng.random() < 0.3):  # equal numbers
+        one, other = rng.sample(logs, 2)
+        other[0] = one[0]
+        if aim == 13 and one[1] <= 4 and other[1] <= 4:  # and a record in common
+            other[2 + 5 * rng.randrange(max(1, other[1]))] = one[2 + 5 * rng.randrange(max(1, one[1]))]
+    case["image"] = image_of(rng, n, m, slots)
+    case["strip"] = rng.choice([48, 48, 49, 64])
+    if aim == 1:
+        case["image"] = wrong_image(rng, case["image"])
+    if aim == 3 or (aim == 1 and rng.random() < 0.3):
+        case["strip"] = rng.choice([0, 1, 24, 46, 47, 47])
+    return case
+
+
+def scene(rng, call, aim):
+    if call == "lay":
+        return lay_scene(rng, aim)
+    if call == "open":
+        return open_scene(rng, aim)
+    if call == "recover":
+        return recover_scene(rng, aim)
+    return session_scene(rng, call)
+
+
+def far(rng, limit):
+    """A number at or above a limit, up to far out of range."""
+    return rng.choice([limit, limit, limit + 1, 16, 256, 2 ** 32, 2 ** 63, TOP]) \
+        if limit <= 16 else rng.choice([limit, limit, limit + 1, 256, 2 ** 32, 2 ** 63, TOP])
+
+
+def spoil(rng, case, number, wide):
+    """Gives a session call a cause for one of the refusals 1 to 5."""
+    call = case["call"]
+    if number == 1:
+        case["image"] = wrong_image(rng, case["image"])
+    elif number == 2:
+        names = [name for name in BREAKS if call in WITH_IMAGE or name not in NEED_IMAGE]
+        desk = None
+        while desk is None:
+            desk = broken_desk(rng, case["desk"], case["image"], rng.choice(names), wide)
+        case["desk"] = desk
+    elif number == 3:
+        case["strip"] = rng.choice([0, 1, 24, 46, 47, 47])
+    elif number == 4:
+        case["session"] = far(rng, case["desk"]["M"])
+    elif number == 5:
+        case["record"] = far(rng, case["desk"]["N"])
+
+
+def causes(call):
+    """Which of the checks 1 to 5 a session call makes."""
+    found = [2, 4] + [1] * (call in WITH_IMAGE) + [3] * (call in WITH_STRIP) + [5] * (call in WITH_RECORD)
+    return sorted(found)
+
+
+# ---- cases by aim --------------------------------------------------------
+
+AIMS = {
+    "lay": ["ok", 1, 14], "open": ["ok", 1, 11], "begin": ["start", 2, 4, 6],
+    "read": ["own", "copy", "home", 1, 2, 4, 5, 6],
+    "write": ["ok", 1, 2, 4, 5, 6, 7, 8, 9],
+    "finish": ["sealed", "empty", 1, 2, 3, 4, 6, 10],
+    "publish": ["end", 2, 4, 6], "settle": ["ok", "wait", 1, 2, 3, 4, 6],
+    "reclaim": ["none", "held", "cleared", 1, 2, 3, 4],
+    "abandon": ["ok", 2, 4, 6], "recover": ["clean", "replayed", 1, 3, 12, 13],
+}
+CLOCKS = {"clock L-1": lambda sealed: L - 1, "clock L": lambda sealed: L,
+          "clock L+16 less sealed": lambda sealed: L + 16 - sealed}
+# What each case in turn is aimed at.
+TURNS = ([(call, aim) for call in AIMS for aim in AIMS[call]]
+         + [("break", name) for name in BREAKS]
+         + [("copies", call) for call in ("write", "finish", "settle", "read")]
+         + [("any", call) for call in WITH_DESK]
+         + [(edge, call) for edge in CLOCKS for call in ("finish", "publish", "begin")]
+         + [("largest", call) for call in WITH_IMAGE]
+         + [("recover", 12), ("recover", "replayed")])
+
+
+def outcome(case):
+    """The answer's name, or its number if refused."""
+    answer = run(case)["answer"]
+    return answer["number"] or answer["name"]
+
+
+def aimed(rng, call, aim, wide):
+    """A case of this call with this answer."""
+    if call in WITH_DESK and aim in causes(call):
+        case = session_scene(rng, call)
+        others = [k for k in causes(call) if k > aim and rng.random() < 0.3]
+        for number in sorted([aim] + others, reverse=True):  # 1 and 2 go last
+            spoil(rng, case, number, wide)
+        return case
+    while True:
+        case = scene(rng, call, aim)
+        if outcome(case) == aim:
+            return case
+
+
+def broken(rng, name, wide):
+    """A case refused by 2, with just this break."""
+    calls = [c for c in WITH_DESK if c in WITH_IMAGE or name not in NEED_IMAGE]
+    while True:
+        case = session_scene(rng, rng.choice(calls))
+        case["desk"] = broken_desk(rng, case["desk"], case["image"], name, wide)
+        if case["desk"] is not None:
+            return case
+
+
+def full(rng, call):
+    """An accepted call by a session with four copies."""
+    while True:
+        case = session_scene(rng, call)
+        own = case["desk"]["sessions"][case["session"]]
+        if own["count"] == 4 and isinstance(outcome(case), str):
+            return case
+
+
+def at_clock(rng, call, edge):
+    """A call in range and in phase, with the clock at an edge."""
+    while True:
+        case = session_scene(rng, call)
+        sealed = sum(e["phase"] == "sealed" for e in case["desk"]["sessions"])
+        if case["desk"]["clock"] == CLOCKS[edge](sealed) and outcome(case) != 6:
+            return case
+
+
+def largest(rng, call):
+    """N 256 and M 16 with a word too few or too many."""
+    n, m = 256, 16
+    case = blank(call)
+    if call == "lay":
+        case["N"], case["M"] = n, m
+    if call in WITH_DESK:
+        case["desk"] = some_desk(rng, n, m)
+    if call in WITH_STRIP:
+        case["strip"] = 48
+    image = some_image(rng, n, m, case["desk"] or store.new_desk(1, n, m))
+    case["image"] = rng.choice([image[:-1], image + [0]])
+    return case
+
+
+def make(seed, number, narrow=False):
+    """The case with this number, and what it is aimed at."""
+    rng = random.Random("%d/%d" % (seed, number))
+    kind, what = TURNS[number % len(TURNS)]
+    if kind == "break":
+        return broken(rng, what, not narrow), (None, 2)
+    if kind == "copies":
+        return full(rng, what), (what, None)
+    if kind == "any":
+        return session_scene(rng, what), (what, None)
+    if kind in CLOCKS:
+        return at_clock(rng, what, kind), (what, None)
+    if kind == "largest":
+        return largest(rng, what), (what, 1)
+    return aimed(rng, kind, what, not narrow), (kind, what)
+
+
+# ---- the program ---------------------------------------------------------
+
+def show(seed, number, narrow):
+    """One case in full, as text."""
+    case, _ = make(seed, number, narrow)
+    done = run(case)
+    for name in ("call", "N", "M", "session", "record", "words", "strip"):
+        print("%-8s %s" % (name, case[name]))
+    for title, desk, image in (("before", case["desk"], case["image"]),
+                               ("after", done["desk"], done["image"])):
+        print("-- " + title)
+        if desk is not None:
+            marks = {r: mark for r, mark in enumerate(desk["marks"]) if mark is not None}
+            print("clock %d N %d M %d marks %s" % (desk["clock"], desk["N"], desk["M"], marks))
+            for session, e in enumerate(desk["sessions"]):
+                if e != store.entry("idle"):
+                    print("session %d %s" % (session, e))
+        if image is not None:
+            print("image of %d words %s" % (len(image), image))
+    print("-- answer %s" % done["answer"])
+    print("entries %s" % done["entries"])
+    print("want %s" % want_line(number, case))
+
+
+def count(seed, cases, narrow):
+    """How many cases there are by call and answer."""
+    seen = Counter()
+    for number in range(cases):
+        case, _ = make(seed, number, narrow)
+        got = outcome(case)
+        seen[case["call"], "no %2d" % got if isinstance(got, int) else got] += 1
+    for (call, got), times in sorted(seen.items()):
+        print("%7d %-8s %s" % (times, call, got))
+
+
+def main(words):
+    if len(words) < 3 or words[0] not in ("in", "want", "count", "show"):
+        sys.exit(__doc__)
+    seed, cases, narrow = int(words[1]), int(words[2]), "narrow" in words[3:]
+    if words[0] == "show":
+        return show(seed, cases, narrow)
+    if words[0] == "count":
+        return count(seed, cases, narrow)
+    for number in range(cases):
+        case, _ = make(seed, number, narrow)
+        if words[0] == "in":
+            out = case_words(case)
+            sys.stdout.buffer.write(struct.pack("<%dQ" % len(out), *out))
+        else:
+            print(want_line(number, case))
+
+
+if __name__ == "__main__":
+    main(sys.argv[1:])

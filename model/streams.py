@@ -1,0 +1,395 @@
+"""Step streams for the program, from a kind and a seed.
+
+    python3 streams.py make KIND SEED > steps     one stream
+    python3 streams.py kinds                      the kinds
+    python3 streams.py count SEEDS                SEEDS seeds of every kind:
+                                                  results by call, as printed
+
+The maker follows the model, so that most steps are accepted and the rarer
+results are sought: of a few possible steps it takes the one whose result it
+has had least often.
+"""
+
+import random
+import sys
+from collections import Counter
+
+import reelwalk
+
+SIZES = [(1, 1), (1, 2), (2, 1), (2, 2), (3, 2), (5, 1), (6, 3), (8, 4),
+         (16, 16), (40, 7), (255, 15), (256, 1), (1, 16), (256, 16)]
+LAY, BEGIN, READ, WRITE, FINISH, PUBLISH, SETTLE, RECLAIM, ABANDON, CUT = range(10)
+
+# How much a result is sought; refusals are to stay the smaller part.
+WORTH = {"no": 0.12, "write no 7": 0.4, "write no 8": 0.6, "write no 9": 0.6, "wait": 0.5,
+         "none": 0.3, "empty": 0.5, "abandon ok": 0.4}
+
+
+class Maker:
+    """Collects the bytes of a stream and follows them with the program."""
+
+    def __init__(self, rng, n, m, hot=0.5, cut=0.01, stray=0.05):
+        self.rng, self.n, self.m = rng, n, m
+        self.hot, self.cut, self.stray = hot, cut, stray
+        self.bytes, self.walk, self.had = bytearray(), reelwalk.Walk(), Counter()
+        self.busy = [rng.randrange(n) for _ in range(1 + n // 8)]
+        self.do(LAY, n % 256, m)
+
+    def do(self, kind, *body):
+        """Adds one step and runs it."""
+        self.bytes += bytes([kind, *body])
+        return self.walk.step(kind, bytes(body))
+
+    # steps of every kind, with words or a cut count chosen
+
+    def words(self):
+        """Four words as bytes: small ones, full ones, equal ones."""
+        way = self.rng.randrange(4)
+        if way == 0:
+            return bytes([self.rng.randrange(1, 9)] + [0] * 31)
+        if way == 1:
+            return bytes([255] * 32)
+        if way == 2:
+            return bytes(32)
+        return self.rng.randbytes(32)
+
+    def some_record(self, session, kind):
+        """A busy record, any record, or one that a session copies."""
+        held = [r for r, mark in enumerate(self.walk.desk["marks"]) if mark is not None]
+        if kind == READ and held and self.rng.random() < 0.5:
+            return self.rng.choice(held)
+        mine = [r for r in held if self.walk.desk["marks"][r] == session]
+        if kind == WRITE and mine and self.rng.random() < 0.15:
+            return self.rng.choice(mine)
+        if self.rng.random() < self.hot:
+            return self.rng.choice(self.busy)
+        return self.rng.randrange(self.n)
+
+    def some_step(self):
+        """A random step that mostly suits the session's phase."""
+        rng = self.rng
+        session = rng.randrange(self.m)
+        suits = {"idle": [BEGIN] * 5 + [RECLAIM], "sealed": [PUBLISH] * 7 + [RECLAIM],
+                 "active": [READ] * 6 + [WRITE] * 9 + [FINISH] * 3 + [RECLAIM, ABANDON],
+                 "published": [SETTLE] * 7 + [RECLAIM]}
+        kind = rng.choice(suits[self.walk.desk["sessions"][session]["phase"]])
+        if rng.random() < self.stray:
+            kind = rng.choice([BEGIN, READ, WRITE, FINISH, PUBLISH, SETTLE, RECLAIM, ABANDON])
+        record = self.some_record(session, kind)
+        if rng.random() < self.stray / 4:
+            session = rng.choice([self.m, 16, 17, 255, rng.randrange(256)])
+        if rng.random() < self.stray / 4:
+            record = rng.choice([self.n % 256, 255, rng.randrange(256)])
+        return self.body(kind, session, record)
+
+    def body(self, kind, session, record):
+        if kind == READ:
+            return [kind, session, record]
+        if kind == WRITE:
+            return [kind, session, record, *self.words()]
+        return [kind, session]
+
+    def foreseen(self, step):
+        """The call with the result that the step would have."""
+        walk = reelwalk.Walk()
+        walk.image, walk.desk, walk.steps = self.walk.image, self.walk.desk, 1
+        return label(walk.step(step[0], bytes(step[1:]))[0])
+
+    def sought(self, tries=4):
+        """Of a few steps the one with the rarest result so far, by worth."""
+        best = None
+        for _ in range(tries):
+            step = self.some_step()
+            name = self.foreseen(step)
+            worth = WORTH.get(name, WORTH.get(name.split()[1], 1))
+            score = self.had[name] / worth
+            if best is None or score < best[0]:
+                best = (score, step, name)
+        self.had[best[2]] += 1
+        self.do(*best[1])
+
+    def go(self, steps):
+        """A run of sought steps with a cut here and there."""
+        for _ in range(steps):
+            if self.rng.random() < self.cut:
+                self.do(CUT, self.rng.choice([0, 1, 2, 3, 255, self.rng.randrange(27)]))
+            elif self.rng.random() < 0.3:
+                self.do(*self.some_step())
+            else:
+                self.sought()
+
+    # set pieces
+
+    def look(self, session, records):
+        """Reads records in a transaction of their own."""
+        self.do(BEGIN, session)
+        for record in records:
+            self.do(READ, session, record)
+        self.do(FINISH, session)
+
+    def wrote(self, session, records):
+        """An active transaction with these records written."""
+        self.do(BEGIN, session)
+        for record in records:
+            self.do(*self.body(WRITE, session, record))
+
+    def to_phase(self, session, records, goal):
+        """Brings an idle session's transaction up to a goal."""
+        self.wrote(session, records)
+        for name, kind in [("sealed", FINISH), ("published", PUBLISH), ("settled", SETTLE)]:
+            if goal == "active":
+                return
+            self.do(kind, session)
+            if goal == name:
+                return
+
+
+def label(line):
+    """Call and result of a printed line without its numbers: "write no 7"."""
+    fields = line.split(" ")[1:]
+    kept = [f for i, f in enumerate(fields) if not f.isdigit() or fields[i - 1] == "no"]
+    return " ".join(kept)
+
+
+# ---- kinds ---------------------------------------------------------------
+
+def mix(rng):
+    """Any size, everything in proportion."""
+    maker = Maker(rng, *rng.choice(SIZES), hot=rng.choice([0, 0.3, 0.8]))
+    maker.go(400)
+    return maker.bytes
+
+
+def hot(rng):
+    """Few records, many sessions: conflicts and waits."""
+    maker = Maker(rng, rng.choice([1, 2, 3, 6]), rng.choice([2, 3, 8, 16]), hot=0.9)
+    maker.go(400)
+    return maker.bytes
+
+
+def cold(rng):
+    """Many records, few conflicts; no stray steps."""
+    maker = Maker(rng, 256, rng.choice([1, 4, 16]), hot=0.05, stray=0.0)
+    maker.go(400)
+    return maker.bytes
+
+
+def small(rng):
+    """One record and one session, and the sizes next to it."""
+    maker = Maker(rng, *rng.choice([(1, 1), (1, 2), (2, 1), (5, 1), (1, 16)]))
+    maker.go(300)
+    return maker.bytes
+
+
+def large(rng):
+    """N 256, M 16."""
+    maker = Maker(rng, 256, 16, hot=0.4)
+    maker.go(600)
+    return maker.bytes
+
+
+def long(rng):
+    """Thousands of steps, few cuts."""
+    maker = Maker(rng, *rng.choice([(4, 2), (9, 3), (32, 8), (256, 16)]), cut=0.0005)
+    maker.go(4000)
+    return maker.bytes
+
+
+def stray(rng):
+    """Many refusals: sessions and records out of range, wrong phases."""
+    maker = Maker(rng, *rng.choice(SIZES), stray=0.5)
+    maker.go(300)
+    return maker.bytes
+
+
+def restless(rng):
+    """A cut every few steps, in any call, also two before one cut."""
+    maker = Maker(rng, *rng.choice([(1, 1), (6, 3), (12, 4), (256, 16)]), cut=0.12)
+    maker.go(400)
+    return maker.bytes
+
+
+def with_others(maker, rng, taken):
+    """Leaves logs of the sessions from 1 up in several states."""
+    free = [r for r in range(maker.n) if r not in taken]
+    rng.shuffle(free)
+    for session in range(1, maker.m):
+        mine = [free.pop() for _ in range(min(len(free), rng.randrange(1, 4)))]
+        if mine and rng.random() < 0.7:
+            maker.to_phase(session, mine, rng.choice(["active", "sealed", "published", "settled"]))
+
+
+def cuts_finish(rng):
+    """Finish of 1 to 4 copies, cut at every count of entries."""
+    maker = Maker(rng, rng.choice([4, 20, 256]), rng.choice([1, 4, 16]))
+    for copies in (1, 2, 3, 4):
+        for k in range(5 * copies + 6):
+            records = rng.sample(range(maker.n), copies)
+            with_others(maker, rng, records)
+            maker.wrote(0, records)
+            maker.do(CUT, k)
+            maker.do(FINISH, 0)
+            maker.look(0, records)
+    return maker.bytes
+
+
+def cuts_settle(rng):
+    """Settle of 1 to 4 copies, cut at every count of entries."""
+    maker = Maker(rng, rng.choice([4, 20, 256]), rng.choice([1, 4, 16]))
+    for copies in (1, 2, 3, 4):
+        for k in range(4 * copies + 3):
+            records = rng.sample(range(maker.n), copies)
+            maker.to_phase(0, records, "published")
+            with_others(maker, rng, records)
+            maker.do(CUT, k)
+            maker.do(SETTLE, 0)
+            maker.look(0, records)
+    return maker.bytes
+
+
+def cuts_reclaim(rng):
+    """Reclaim cut at every count of entries, with an older or newer log too."""
+    maker = Maker(rng, rng.choice([8, 20, 256]), rng.choice([2, 4, 16]))
+    for k in list(range(5)) * 6:
+        records = rng.sample(range(maker.n), 2)
+        maker.to_phase(0, records, "settled")
+        if rng.random() < 0.5:
+            maker.to_phase(0, records, rng.choice(["active", "sealed", "settled"]))
+        with_others(maker, rng, records)
+        maker.do(CUT, k)
+        maker.do(RECLAIM, 0)
+        maker.look(0, records)
+    return maker.bytes
+
+
+def cuts_idle(rng):
+    """Cuts that meet a refusal, an answer without entries, or another cut."""
+    maker = Maker(rng, 6, 3)
+    for _ in range(40):
+        maker.go(rng.randrange(8))
+        maker.do(CUT, rng.randrange(30))
+        if rng.random() < 0.3:
+            maker.do(CUT, rng.randrange(30))
+        session = rng.choice([0, 1, 2, 3, 255])
+        maker.do(rng.choice([BEGIN, PUBLISH, ABANDON]), session)
+        maker.do(rng.choice([FINISH, SETTLE, RECLAIM]), session)
+    if rng.random() < 0.5:
+        maker.do(CUT, 1)  # input may end with a cut pending
+    return maker.bytes
+
+
+def every_answer(rng):
+    """A set piece through each result and refusal that a stream reaches."""
+    maker = Maker(rng, 8, 4)
+    for _ in range(6):
+        a, b, c, d = rng.sample(range(4), 4)
+        r = rng.sample(range(8), 8)
+        maker.do(ABANDON, a)                         # no 6
+        maker.do(READ, 4, 8)                         # no 4
+        maker.do(READ, a, 8)                         # no 5
+        maker.do(BEGIN, b)                           # an old reader
+        maker.wrote(a, r[:4])
+        maker.do(*maker.body(WRITE, a, r[4]))        # no 8
+        maker.do(*maker.body(WRITE, a, r[0]))        # overwritten
+        maker.do(READ, a, r[0])                      # own
+        maker.do(FINISH, a)
+        maker.do(READ, b, r[0])                      # home, holder sealed
+        maker.do(PUBLISH, a)
+        maker.do(READ, b, r[0])                      # home, end above start
+        maker.do(BEGIN, c)
+        maker.do(READ, c, r[0])                      # copy
+        maker.do(*maker.body(WRITE, c, r[0]))        # no 7
+        maker.do(SETTLE, a)                          # wait
+        maker.do(FINISH, b)                          # empty
+        maker.do(SETTLE, a)
+        maker.to_phase(d, [r[5]], "settled")
+        maker.do(RECLAIM, d)                         # held
+        maker.to_phase(a, [r[6]], "settled")
+        maker.wrote(a, [r[7]])                       # no 9
+        maker.do(ABANDON, a)
+        maker.do(RECLAIM, a)                         # cleared
+        maker.do(RECLAIM, d)                         # cleared
+        maker.do(RECLAIM, a)                         # cleared
+        maker.do(RECLAIM, a)                         # none
+    return maker.bytes
+
+
+def sizes_refused(rng):
+    """Step 0 with M out of range, with bytes behind it that are not read."""
+    n, m = rng.choice([0, 1, 2, 255]), rng.choice([0, 17, 18, 128, 255])
+    return bytes([0, n, m]) + rng.choice([b"", bytes([1, 0]), bytes([200])])
+
+
+ENDINGS = 12
+
+
+def damaged(rng, way=None):
+    """Endings: unknown kind, short body, first step not 0, later step 0, empty."""
+    way = rng.randrange(ENDINGS) if way is None else way
+    kind = rng.randrange(10)
+    if way == 0:
+        return b""
+    if way == 1:
+        return bytes([rng.randrange(1, 256)]) + rng.randbytes(rng.randrange(3))
+    if way == 2:
+        return bytes([0, 2])[:rng.randrange(1, 3)]
+    if way == 3:
+        return bytes([rng.randrange(1, 10), 0, 0]) + bytes([0, 2, 2])
+    maker = Maker(rng, *rng.choice(SIZES))
+    maker.go(rng.randrange(30))
+    if way == 4:
+        return maker.bytes + bytes([rng.choice([10, 11, 128, 255, rng.randrange(10, 256)])])
+    if way == 5:
+        return maker.bytes + bytes([10]) + bytes([1, 0])
+    if way == 6:
+        return maker.bytes + bytes([0, 2, 2, 1, 0])
+    if way == 7:
+        return maker.bytes + bytes([0, 2])[:rng.randrange(1, 3)]
+    if way == 8:
+        return maker.bytes + bytes([kind]) + bytes(rng.randrange(reelwalk.BODIES[kind]))
+    if way == 9:
+        return maker.bytes + bytes([WRITE, 0, 0]) + bytes(rng.choice([0, 1, 30, 31]))
+    if way == 10:
+        return maker.bytes + bytes([CUT, 3, kind])
+    return maker.bytes + bytes([CUT, 3])
+
+
+KINDS = {f.__name__: f for f in (
+    mix, hot, cold, small, large, long, stray, restless, cuts_finish, cuts_settle,
+    cuts_reclaim, cuts_idle, every_answer, sizes_refused, damaged)}
+
+
+def stream(kind, seed):
+    """The bytes of one stream; the endings go round by seed."""
+    rng = random.Random("%s/%d" % (kind, seed))
+    if kind == "damaged":
+        return bytes(damaged(rng, seed % ENDINGS))
+    return bytes(KINDS[kind](rng))
+
+
+def count(seeds):
+    """Printed lines by call and result, over all kinds."""
+    seen, steps = Counter(), Counter()
+    for kind in KINDS:
+        for seed in range(seeds):
+            for line in reelwalk.run(stream(kind, seed)):
+                seen[label(line)] += 1
+                steps[kind] += 1
+    return seen, steps
+
+
+def main(words):
+    if words[0] == "make":
+        sys.stdout.buffer.write(stream(words[1], int(words[2])))
+    elif words[0] == "kinds":
+        print("\n".join(KINDS))
+    elif words[0] == "count":
+        for table in count(int(words[1])):
+            for name, number in sorted(table.items()):
+                print("%8d %s" % (number, name))
+    else:
+        sys.exit(__doc__)
+
+
+if __name__ == "__main__":
+    main(sys.argv[1:] or ["help"])
