@@ -79,7 +79,7 @@ add-slot-at : tie.Need-add-slot-at
 add-slot-at c = omega (arith, fits (c .before .before .before .before .before .before) .place-high)
 
 slot-at-requires : tie.Need-slot-at-requires
-slot-at-requires c κs = (fits (c .before .before .before .before .before .before) .n-high, fits (c .before .before .before .before .before .before) .place-high)
+slot-at-requires c κs = omega (arith, fits (c .before .before .before .before .before .before))
 
 mul-write-log : tie.Need-mul-write-log
 mul-write-log c = omega (arith, fits (c .before .before .before .before .before .before .before .before), (c .before) .slot-at .ensures)
