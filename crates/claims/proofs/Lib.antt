@@ -24,3 +24,5 @@ pub mod CutRecovers
 pub mod Views
 pub mod SameDue
 pub mod Demands
+pub mod Refusals
+pub mod Impostors

@@ -6,3 +6,5 @@ pub mod Rules
 pub mod Run
 pub mod Recovery
 pub mod Demands
+pub mod Refusals
+pub mod Impostors

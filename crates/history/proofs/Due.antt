@@ -1,27 +1,26 @@
 -- Every answer along a run is the one that the ledger of the calls and answers before it makes due.
-use Prim.Native.Nat.{ℕ, zero, suc, _+_, _*_, _≤_, _<_}
+use Prim.Native.Nat.{ℕ, zero, suc, _+_, _*_, _<_}
 use mathlib.Core.Path.{_≡_, refl, sym, ap, _∙_, fun-ext}
 use mathlib.Core.Bool.{Bool, true, false, cond, not}
 use mathlib.Core.Option.{Option, none, some}
 use mathlib.Core.List.{List, [], _∷_}
 use native.Mathlib.Omega.{arith}
-use native.Mathlib.Decide.{decLt}
 use lib.ListN.{length, getD, drop, length-take, length-drop}
 use lib.Seq.{ext-getD}
 use lib.Dec.{T, leb, nleb→lt}
 use Rattle.history.specs.Log.{State}
-use Rattle.history.specs.Layout.{base, view}
+use Rattle.history.specs.Layout.{view}
 use Rattle.history.specs.Recover.{better, oldest}
 use Rattle.history.specs.Desk.{Copy, find, Session, idle, active, sealed, published, Desk, holder}
 use Rattle.history.specs.History.{Call, begin, read, write, abandon, finish, publish, settle, reclaim, Answer, refused, home, History, seen-at}
 use Rattle.history.specs.Calls.{Reply, refuse, home-words, shown, held-by, reads-other, reads-own, reads, adds, writes-own, wrote, candidate, clears, reclaims, place, reply}
-use Rattle.history.specs.Run.{World, opened, answer, answers, after, run-calls}
+use Rattle.history.specs.Run.{World, answer, answers, after}
 use Rattle.history.specs.Ledger.{slots, Ledger, note, four, due-other, due-own, due-read, due-of, due}
-use Rattle.history.specs.Claims.{Right, opened-ledger, noted, AllDue}
+use Rattle.history.specs.Right.{Right}
 use Rattle.history.proofs.Copies.{Fresh, Found, find?}
 use Rattle.history.proofs.Invariant.{Active}
 use Rattle.history.proofs.Kept.{Holds, Done, done}
-use Rattle.history.proofs.Demands.{Held, opening-holds, after-holds, read-right}
+use Rattle.history.proofs.Demands.{Held, read-right}
 
 oldest-slots : (v : State) (k : ℕ) → oldest v k ≡ oldest (slots (v .number)) k
 unfolding oldest
@@ -134,24 +133,3 @@ linked-after N M L w H k c = record {
   where
     g : Done N M (w .image) (w .desk) (w .history) c (answer N M w c)
     g = done N M (w .image) (w .desk) (w .history) H c
-
-pub run-due : (N M : ℕ) (calls : List Call) (L : Ledger) (w : World) → Held N M w → Linked N L w → (c : Call)
-    → answer N M (run-calls N M calls w) c .answer ≡ due N M (noted calls (answers N M calls w) L) c
-unfolding run-calls noted answers
-run-due N M [] L w H k c = linked-due N M L w H k c
-run-due N M (b ∷ cs) L w H k c = run-due N M cs (note b (answer N M w b .answer) L) (after N M w b) (after-holds N M w b H) (linked-after N M L w H k b) c
-
-out-of : (xs : List ℕ) (i : ℕ) → length xs ≤ i → getD xs i 0 ≡ 0
-out-of [] i l = refl
-out-of (x ∷ xs) zero l = absurd (omega arith)
-out-of (x ∷ xs) (suc i) l = out-of xs i (omega arith)
-
-pub all-due : AllDue
-all-due N M img o calls c = run-due N M calls (opened-ledger img) (opened img) (opening-holds N M img o) (record { desk = refl; number = fun-ext zero-at; history = refl }) c
-  where
-    zero-at : (p : ℕ) → 0 ≡ getD img (base N p) 0
-    zero-at p = go (decLt p (2 * M))
-      where
-        go : Dec (p < 2 * M) → 0 ≡ getD img (base N p) 0
-        go (yes l) = sym (o .clean p l)
-        go (no n) = sym (out-of img (base N p) (omega (arith, o .whole)))

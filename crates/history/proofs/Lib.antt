@@ -6,7 +6,7 @@ pub mod Denoted
 pub mod OneStep
 pub mod Choice
 pub mod Theorems
-pub mod Meaning
+pub mod Writes
 pub mod Publish
 pub mod Copies
 pub mod Book
@@ -16,4 +16,3 @@ pub mod Slots
 pub mod Kept
 pub mod Demands
 pub mod Due
-pub mod Sane

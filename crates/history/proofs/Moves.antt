@@ -9,7 +9,7 @@ use native.Mathlib.Decide.{ℕ-discrete}
 use native.Mathlib.Omega.{arith}
 use lib.ListN.{length, getD}
 use lib.Dec.{T}
-use Rattle.history.proofs.Meaning.{writes?}
+use Rattle.history.proofs.Writes.{writes?}
 use Rattle.history.specs.Log.{Write, In, State, Occupied, Puts, Final, Oldest}
 use Rattle.history.specs.Layout.{Home}
 use Rattle.history.specs.Desk.{lowest, found, Copy, find, spot, writes, Session, idle, active, sealed, published, copies, Desk, upd, with-session}

@@ -11,11 +11,11 @@ use Rattle.history.specs.Log.{In, Occupied, Final, Clean, busy}
 use Rattle.layout.specs.Entries.{Entry}
 use Rattle.history.specs.Layout.{Home, base, body, denoted, view, Good}
 use Rattle.history.specs.Recover.{oldest, applied, from, recover, Attempt, whole, broken, run, attempt, attempts, steps}
-use Rattle.history.proofs.Abstract.{final-kept, final-clean}
+use Rattle.history.proofs.Abstract.{final-kept}
 use Rattle.history.proofs.Denoted.{sound-home, sound-functional}
 use Rattle.history.proofs.OneStep.{step, still-good}
 use Rattle.history.proofs.Batch.{Words, Fit, cut-words, made-words, made-turned}
-use Rattle.history.proofs.Choice.{Best, First, best, busy-most, busy-none, busy-clean, busy-fewer}
+use Rattle.history.proofs.Choice.{Best, First, best, busy-none, busy-clean, busy-fewer}
 
 -- img′ is good where img is, and has the same final words
 pub record Carries (N M : ℕ) (img img′ : List ℕ) : Type 0 where
@@ -120,25 +120,3 @@ attempts-carry N M (a ∷ rest) img g =
     let c = attempt-carries N M img g a in
     let d = attempts-carry N M rest (attempt N M a img) (c .good) in
     record { good = d .good; final = λ i w h f. d .final i w h (c .final i w h f) }
-
--- T3: after any attempts, 2 M whole steps leave no log, and each home word is its final word
-pub recovers : (N M : ℕ) (img : List ℕ) (tries : List Attempt) (word : ℕ → ℕ) → Good N M img
-    → ((i : ℕ) → Home N i → Final (2 * M) (view N img) i (word i))
-    → Clean (2 * M) (view N (steps N M (2 * M) (attempts N M tries img)))
-    × ((i : ℕ) → Home N i → getD (steps N M (2 * M) (attempts N M tries img)) i 0 ≡ word i)
-recovers N M img tries word g f = (clean, λ i h. final-clean (2 * M) (view N end) clean i (word i) (d .final i (word i) h (c .final i (word i) h (f i h))))
-  where
-    mid : List ℕ
-    mid = attempts N M tries img
-
-    end : List ℕ
-    end = steps N M (2 * M) mid
-
-    c : Carries N M img mid
-    c = attempts-carry N M tries img g
-
-    d : Carries N M mid end
-    d = steps-carry N M (2 * M) mid (c .good)
-
-    clean : Clean (2 * M) (view N end)
-    clean = steps-clean N M (2 * M) mid (c .good) (busy-most (view N mid .number) (2 * M))

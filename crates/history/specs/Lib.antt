@@ -8,4 +8,4 @@ pub mod History
 pub mod Calls
 pub mod Run
 pub mod Ledger
-pub mod Claims
+pub mod Right

@@ -118,6 +118,14 @@ length-homes rec words zero = refl
 length-homes rec words (suc k) =
     omega (arith, length-homes rec words k, length-append (homesWrites rec words k) (homeWrites (rec k) (words k)))
 
+-- records and words that agree below k are written alike
+pub homes-same : (rec rec′ : ℕ → ℕ) (words words′ : ℕ → List ℕ) (k : ℕ) → ((j : ℕ) → j < k → (rec j ≡ rec′ j) × (words j ≡ words′ j))
+    → homesWrites rec words k ≡ homesWrites rec′ words′ k
+unfolding homesWrites
+homes-same rec rec′ words words′ zero h = refl
+homes-same rec rec′ words words′ (suc k) h =
+    rw (homes-same rec rec′ words words′ k (λ j l. h j (omega arith)), h k (omega arith) .0, h k (omega arith) .1)
+
 pub length-body : (rec : ℕ → ℕ) (words : ℕ → List ℕ) (count k : ℕ) → length (bodyWrites rec words count k) ≡ 1 + 5 * k
 unfolding bodyWrites
 length-body rec words count zero = refl

@@ -1,9 +1,10 @@
 // The image: where its parts lie, reading and laying it, and storing to it with a trace of every store.
-// `lay` is a call that users make. `index`, `scan` and `trace` are for the crates above alone: their functions say what they need.
+// `lay` is a call that users make. `index`, `logs`, `scan` and `trace` are for the crates above alone: their functions say what they need.
 mod checks;
 mod image;
 mod index;
 mod laying;
+mod logs;
 mod scan;
 mod trace;
 
@@ -16,6 +17,9 @@ pub use index::slot_at;
 pub use index::slot_word;
 pub use laying::LayAnswer;
 pub use laying::lay;
+pub use logs::place_words;
+pub use logs::tied;
+pub use logs::unsound;
 pub use scan::Oldest;
 pub use scan::occupied;
 pub use scan::older;

@@ -8,3 +8,4 @@ pub mod WriteLaws
 pub mod FinishLaws
 pub mod SettleLaws
 pub mod ReclaimLaws
+pub mod RecoverLaws

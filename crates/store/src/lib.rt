@@ -24,6 +24,7 @@ pub use reclaiming::ReclaimReply;
 pub use reclaiming::reclaim;
 pub use recovering::RecoverAnswer;
 pub use recovering::RecoverReply;
+pub use recovering::recover;
 pub use settling::SettleAnswer;
 pub use settling::SettleReply;
 pub use settling::settle;
