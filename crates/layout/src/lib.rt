@@ -17,6 +17,8 @@ pub use index::slot_at;
 pub use index::slot_word;
 pub use laying::LayAnswer;
 pub use laying::lay;
+pub use logs::log_count;
+pub use logs::place_rec;
 pub use logs::place_words;
 pub use logs::tied;
 pub use logs::unsound;

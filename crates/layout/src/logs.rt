@@ -5,7 +5,7 @@ ghost use Prim.Native.Nat.{_≤_, _<_};
 ghost use lib.Dec.{eqb};
 ghost use Rattle.layout.specs.Below.{anyBelow};
 ghost use Rattle.layout.specs.Image.{slotWord};
-ghost use Rattle.layout.specs.Log.{recOf, wordsOf, badPlace, unsoundB, placeTouches, sharedB, tiedB};
+ghost use Rattle.layout.specs.Log.{countOf, recOf, wordsOf, badPlace, unsoundB, placeTouches, sharedB, tiedB};
 use crate::index::slot_word;
 
 // Whether an earlier place of the log has the record of place j.
@@ -110,6 +110,22 @@ pub fn tied(image: &[u64], n: u64, a: u64, b: u64) -> bool
     } else {
         false
     }
+}
+
+// The count of copies of the log.
+pub fn log_count(image: &[u64], n: u64, place: u64) -> u64
+    requires { ⌜ (n ≤ 256) × (place ≤ 32) ⌝ }
+    ensures { λ r. ⌜ r ≡ countOf (slotWord (now (image .entry)) n place) ⌝ }
+{
+    slot_word(image, n, place, 1)
+}
+
+// The record number of place j of the log.
+pub fn place_rec(image: &[u64], n: u64, place: u64, j: u64) -> u64
+    requires { ⌜ (n ≤ 256) × (place ≤ 32) × (j < 4) ⌝ }
+    ensures { λ r. ⌜ r ≡ recOf (slotWord (now (image .entry)) n place) j ⌝ }
+{
+    slot_word(image, n, place, 2 + 5 * j)
 }
 
 // The record words of place j of the log.

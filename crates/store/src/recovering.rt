@@ -109,7 +109,7 @@ fn log_copy(image: &[u64], n: u64, place: u64, j: u64) -> RecordCopy
     requires { ⌜ (n ≤ 256) × (place ≤ 32) × (j < 4) ⌝ }
     ensures { λ r. ⌜ r ≡ record { rec = recOf (slotWord (now (image .entry)) n place) j; words = wordsOf (slotWord (now (image .entry)) n place) j } ⌝ }
 {
-    let rec = layout::slot_word(image, n, place, 2 + 5 * j);
+    let rec = layout::place_rec(image, n, place, j);
     let words = layout::place_words(image, n, place, j);
     RecordCopy {
         rec: rec,
@@ -149,7 +149,7 @@ pub fn recover(image: &mut [u64], trace: &mut [u64]) -> RecoverReply
             entries: 0,
         };
     }
-    let count = layout::slot_word(image, n, place, 1);
+    let count = layout::log_count(image, n, place);
     let copies = log_copies(image, n, place);
     let slot = layout::slot_at(n, place) as usize;
     let a = put_homes(image, trace, copies, count);

@@ -56,8 +56,8 @@ returns-2 c =
     let g = recover-clean (oldest (c .before)) (c .if2 .taken) in
     (sym (g .replies), stored-none _ _ _ (g .lists))
 
-slot-word-requires : tie.Need-slot-word-requires
-slot-word-requires c κs = let t = log (c .before) in (t .n-high, t .low, omega arith)
+log-count-requires : tie.Need-log-count-requires
+log-count-requires c κs = let t = log (c .before) in (t .n-high, t .low)
 
 log-copies-requires : tie.Need-log-copies-requires
 log-copies-requires c κs = let t = log (c .before .before .before) in (t .n-high, t .low)
@@ -68,25 +68,25 @@ slot-at-requires c κs = let t = log (c .before .before .before .before) in (t .
 put-homes-requires : tie.Need-put-homes-requires
 put-homes-requires c κs =
     let t = log (c .before .before .before .before .before .before .before) in (
-      (omega (arith, (c .before .before .before .before .before) .slot-word .ensures, t .few), omega (arith, (c .before .before .before .before .before) .slot-word .ensures, t .few, t .room)),
-      λ j l. rw ((c .before .before .before) .log-copies .ensures j (omega (arith, (c .before .before .before .before .before) .slot-word .ensures, t .few))) (t .homes j (omega (arith, (c .before .before .before .before .before) .slot-word .ensures))),
+      (omega (arith, (c .before .before .before .before .before) .log-count .ensures, t .few), omega (arith, (c .before .before .before .before .before) .log-count .ensures, t .few, t .room)),
+      λ j l. rw ((c .before .before .before) .log-copies .ensures j (omega (arith, (c .before .before .before .before .before) .log-count .ensures, t .few))) (t .homes j (omega (arith, (c .before .before .before .before .before) .log-count .ensures))),
     )
 
 put-fence-requires : tie.Need-put-fence-requires
-put-fence-requires c κs = let t = log (c .before .before .before .before .before .before .before .before .before .before .before .before .before) in omega (arith, (c .before .before .before .before .before .before .before .before .before .before .before) .slot-word .ensures, t .few, t .room)
+put-fence-requires c κs = let t = log (c .before .before .before .before .before .before .before .before .before .before .before .before .before) in omega (arith, (c .before .before .before .before .before .before .before .before .before .before .before) .log-count .ensures, t .few, t .room)
 
 put-store-requires : tie.Need-put-store-requires
 put-store-requires c κs =
     let s = c .before .before .before .before .before .before .before .before .before .before .before .before .before in
     let t = log (s .before .before .before .before .before) in
     record {
-      listing = omega (arith, s .before .before .before .slot-word .ensures, t .few, t .room);
+      listing = omega (arith, s .before .before .before .log-count .ensures, t .few, t .room);
       storing = omega (arith, s .slot-at .ensures, t .inside);
       numbers = omega (arith, s .slot-at .ensures, t .n-high, t .low);
     }
 
 put-fence-requires-2 : tie.Need-put-fence-requires-2
-put-fence-requires-2 c κs = let t = log (c .before .before .before .before .before .before .before .before .before .before .before .before .before .before .before .before .before .before .before .before .before .before .before .before) in omega (arith, (c .before .before .before .before .before .before .before .before .before .before .before .before .before .before .before .before .before .before .before .before .before .before) .slot-word .ensures, t .few, t .room)
+put-fence-requires-2 c κs = let t = log (c .before .before .before .before .before .before .before .before .before .before .before .before .before .before .before .before .before .before .before .before .before .before .before .before) in omega (arith, (c .before .before .before .before .before .before .before .before .before .before .before .before .before .before .before .before .before .before .before .before .before .before) .log-count .ensures, t .few, t .room)
 
 mul-t27 : tie.Need-mul-t27
 mul-t27 c = search needs
@@ -106,8 +106,8 @@ returns-3 c =
     let o = s .before .before .before .before .before in
     let g =
     recover-replays (oldest (o .before)) (o .if2 .left)
-    (s .before .log-copies .result) (s .before .before .before .slot-word .result) (s .slot-at .result)
-    (s .before .log-copies .ensures) (s .before .before .before .slot-word .ensures) (s .slot-at .ensures) in
+    (s .before .log-copies .result) (s .before .before .before .log-count .result) (s .slot-at .result)
+    (s .before .log-copies .ensures) (s .before .before .before .log-count .ensures) (s .slot-at .ensures) in
     let d =
     and-then (c .before .before .before .before .before .before .before .before .before .before .before .before .before .before .before .before .before .before .before .put-homes .ensures .0)
     (and-then (fenced (c .before .before .before .before .before .before .before .before .before .before .before .before .before .put-fence .ensures))
@@ -129,7 +129,7 @@ recover-spec =
     oldest-log-requires
     same-length-2
     returns-2
-    slot-word-requires
+    log-count-requires
     log-copies-requires
     slot-at-requires
     put-homes-requires
