@@ -12,7 +12,7 @@ use Rattle.desk.specs.Desk.{noCopy, copiedRec, copiedWords}
 use Rattle.desk.specs.declared.state.RecordCopy.{RecordCopy}
 use Rattle.desk.specs.declared.state.Session.{Session}
 use Rattle.history.specs.Desk.{Copy, writes, flat}
-use Rattle.history.specs.Publish.{laid}
+use Rattle.history.specs.Batch.{laid}
 use Rattle.history.specs.Batch.{batch}
 use Rattle.history.specs.Calls.{log-words}
 use Rattle.claims.proofs.Abstraction.{front, copiesOf, length-front}

@@ -15,7 +15,7 @@ use Rattle.layout.specs.Entries.{Entry, made}
 use Rattle.layout.specs.Crash.{crashed as cut}
 use Rattle.history.specs.Layout.{Home, base, body, denoted, view, Sound, Good}
 use Rattle.history.specs.Recover.{oldest}
-use Rattle.history.specs.Publish.{laid}
+use Rattle.history.specs.Batch.{laid}
 use Rattle.history.specs.Desk.{Copy, find, put, spot, writes, Session, idle, active, sealed, published, copies, Desk, upd, with-session, lowest, found, holder, before}
 use Rattle.history.specs.History.{Call, begin, read, write, abandon, finish, publish, settle, reclaim, Answer, refused, taken, ok, start, own, copied, home, empty, sealed-at, wait, nothing, held, cleared, History, feed, last, seen-at, begun, drafted, sealing}
 use Rattle.history.specs.Calls.{Reply, limit, place, refuse, say, begins, shown, held-by, reads-other, reads-own, reads, keeps, adds, writes-held, writes-own, wrote, abandons, log-words, finish-entries, finishes, publishes, waits, settles, free, choice, candidate, clears, reclaims, reply}
@@ -23,7 +23,7 @@ use Rattle.history.specs.Run.{crash-feed}
 use Rattle.history.specs.Ledger.{reslot, redesk, renumber, drop-slot}
 use Rattle.history.proofs.Batch.{Words, Fit, cut-words, made-words, made-turned}
 use Rattle.history.proofs.Places.{base-apart}
-use Rattle.history.proofs.Publish.{Beside, beside-old, beside-back}
+use Rattle.history.proofs.Beside.{Beside, beside-old, beside-back}
 use Rattle.history.proofs.Choice.{neqb→ne, Best, best}
 use Rattle.history.proofs.Copies.{Mem, Fresh, Apart, Found, find?, mem-put, distinct-put, length-put, length-put-own, in-word, word-in, upd-same, upd-other, Lowest, lowest?}
 use Rattle.history.proofs.Book.{ended-view}

@@ -7,7 +7,7 @@ pub mod OneStep
 pub mod Choice
 pub mod Theorems
 pub mod Writes
-pub mod Publish
+pub mod Beside
 pub mod Copies
 pub mod Book
 pub mod Invariant

@@ -18,7 +18,7 @@ use Rattle.history.specs.Calls.{place, shown}
 use Rattle.history.proofs.Copies.{Word, Found, find?, mem-one, Lowest, lowest?, Mem, Fresh, Apart, mem?, find-fresh, find-mem, in-spot, in-word, word-in, upd-same, upd-other}
 use Rattle.history.proofs.Book.{Own, own-last, own-view, leb-true, ended-last, ended-own, ended-other, ended-view}
 use Rattle.history.proofs.Invariant.{Active, Logged, Fine, unpublished, kept, Starts, Live, NoOne, Inv, unpublished-copies, shown-copies, Low, low-unpublished, low-kept, low-shown, each, back, at-t, live-back, Aside, aside, excl-after}
-use Rattle.history.proofs.Publish.{Beside, beside-old, beside-back}
+use Rattle.history.proofs.Beside.{Beside, beside-old, beside-back}
 
 -- ---- a session that is idle or active, before and after; the image as it is
 

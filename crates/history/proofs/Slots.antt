@@ -12,13 +12,13 @@ use Rattle.history.specs.Log.{Write, In, Functional}
 use Rattle.layout.specs.Entries.{Entry, store, fence, made, stores}
 use Rattle.layout.specs.Crash.{arrived, crashed as cut}
 use Rattle.history.specs.Layout.{Home, base, body, count, rec, word, copy, copies as places, denoted, view, Sound}
-use Rattle.history.specs.Publish.{laid}
+use Rattle.history.specs.Batch.{laid}
 use Rattle.history.specs.Desk.{Copy, writes, flat}
 use Rattle.history.specs.Calls.{log-words}
 use Rattle.history.proofs.Cuts.{set-word, Stored, stored-take, stored-in, arrived-word, length-arrived, made-word, length-made, made-written, made-append, cut-fence}
 use Rattle.history.proofs.Batch.{Words, Fit}
 use Rattle.history.proofs.Places.{body-same, base-apart, inside-apart}
-use Rattle.history.proofs.Publish.{laid-in, in-laid}
+use Rattle.history.proofs.Beside.{laid-in, in-laid}
 use Rattle.history.proofs.Copies.{Mem, Distinct, Below, in-word, mem-one}
 use Rattle.history.proofs.Invariant.{Lawful}
 use Rattle.history.proofs.Moves.{Homing, Emptied}

@@ -11,7 +11,7 @@ use Rattle.layout.specs.Entries.{Entry, store, fence, stores}
 use Rattle.history.specs.Batch.{batch}
 use Rattle.history.specs.Layout.{base, view}
 use Rattle.history.specs.Recover.{oldest}
-use Rattle.history.specs.Publish.{laid}
+use Rattle.history.specs.Batch.{laid}
 use Rattle.history.specs.Desk.{Copy, find, put, writes, flat, Session, idle, active, sealed, published, copies, Desk, with-session, lowest, holder, before}
 use Rattle.history.specs.History.{Call, begin, read, write, abandon, finish, publish, settle, reclaim, Answer, refused, taken, ok, start, own, copied, home, empty, sealed-at, ended-at, wait, nothing, held, cleared}
 

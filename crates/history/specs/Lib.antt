@@ -2,7 +2,6 @@ pub mod Log
 pub mod Batch
 pub mod Layout
 pub mod Recover
-pub mod Publish
 pub mod Desk
 pub mod History
 pub mod Calls

@@ -1,4 +1,4 @@
--- Publishing is atomic: whatever is cut off, every home word's final word is the old one, or every one is the new one.
+-- A log put into an empty slot beside the others: what the others denote stays, and the last word on an index is the old one or the new log's.
 use Prim.Native.Nat.{ℕ, zero, suc, _+_, _-_, _≤_, _<_}
 use mathlib.Core.Path.{_≡_, refl, ap, _∙_}
 use mathlib.Core.Logic.{inl, inr, _≢_}
@@ -7,9 +7,8 @@ use native.Mathlib.Decide.{ℕ-discrete}
 use native.Mathlib.Omega.{arith}
 use lib.ListN.{length, getD}
 use Rattle.history.specs.Log.{In, State, Occupied, Puts, Final}
-use Rattle.layout.specs.Crash.{crashed as cut}
 use Rattle.history.specs.Layout.{Home}
-use Rattle.history.specs.Publish.{laid}
+use Rattle.history.specs.Batch.{laid}
 
 -- ---- the abstract part: slot p was empty, and afterwards is empty or holds a log newer than all others
 
