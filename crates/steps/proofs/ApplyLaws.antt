@@ -1,0 +1,23 @@
+-- The number of entries that a step gives is the length of its list.
+use Prim.Native.Nat.{ℕ}
+use mathlib.Core.Path.{_≡_, refl}
+use mathlib.Core.List.{List}
+use lib.ListN.{length}
+use Rattle.desk.specs.declared.state.Desk.{Desk}
+use Rattle.store.proofs.Lists.{lists}
+use Rattle.steps.specs.declared.step.Step.{Step}
+use Rattle.steps.specs.declared.step.Step.the-variants.{Lay, Begin, Read, Write, Finish, Publish, Settle, Reclaim, Abandon, Cut}
+use Rattle.steps.specs.Apply.{appliedOf, appliedEntries}
+
+pub applied-counted : (img : List ℕ) (d : Desk) (len : ℕ) (step : Step) (ws : List ℕ)
+    → appliedOf img d len step ws .entries ≡ length (appliedEntries img d len step)
+applied-counted img d len (Lay n m) ws = refl
+applied-counted img d len (Begin s) ws = refl
+applied-counted img d len (Read s r) ws = refl
+applied-counted img d len (Write s r) ws = refl
+applied-counted img d len (Finish s) ws = lists .finish img d len s .counted
+applied-counted img d len (Publish s) ws = refl
+applied-counted img d len (Settle s) ws = lists .settle img d len s .counted
+applied-counted img d len (Reclaim s) ws = lists .reclaim img d len s .counted
+applied-counted img d len (Abandon s) ws = refl
+applied-counted img d len (Cut k) ws = refl

@@ -1,0 +1,32 @@
+use borrow.Author.Needs.{needs}
+use Rattle.steps.proofs.applying.apply_finish.Statement.{statement}
+use Rattle.steps.proofs.applying.apply_finish.Tie as tie
+
+finish-requires : tie.Need-finish-requires
+finish-requires c κs = search needs
+
+finish-outcome-requires : tie.Need-finish-outcome-requires
+finish-outcome-requires c κs = search needs
+
+gives-requires : tie.Need-gives-requires
+gives-requires c κs = search needs
+
+same-length : tie.Need-same-length
+same-length c = search needs
+
+same-length-2 : tie.Need-same-length-2
+same-length-2 c = search needs
+
+returns : tie.Need-returns
+returns c = let w = (c .before .before .before .before .before .before .before) .finish .ensures in (rw (c .gives .ensures, (c .before) .finish-outcome .ensures, w .0), w .1)
+
+pub apply-finish-spec : {M : Type 1} → statement M
+apply-finish-spec =
+    tie.close
+    (tie.spec
+    finish-requires
+    finish-outcome-requires
+    gives-requires
+    same-length
+    same-length-2
+    returns)

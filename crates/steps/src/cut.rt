@@ -1,0 +1,54 @@
+// A cut: of a step that stores, only the first entries arrive.
+ghost use mathlib.Core.Path.{_≡_};
+ghost use Rattle.steps.specs.Cut.{overlaid, arrived, replayed, arriving, cutBack};
+
+// Copies an image to a slice of the same length or longer.
+pub fn keep(image: &[u64], before: &mut [u64])
+    ensures { λ r. ⌜ now (before .exit) ≡ overlaid (now (image .entry)) (now (before .entry)) ⌝ }
+{
+    let mut i = 0;
+    while i < image.len() && i < before.len() {
+        before[i] = image[i];
+        i += 1;
+    }
+}
+
+// Makes one entry. The index of a fence is past the end of every image.
+fn arrive(image: &mut [u64], index: u64, word: u64)
+    ensures { λ r. ⌜ now (image .exit) ≡ arrived index word (now (image .entry)) ⌝ }
+{
+    if index < image.len() as u64 {
+        let i = index as usize;
+        image[i] = word;
+    }
+}
+
+// Makes the first `count` entries of a trace.
+fn replay(image: &mut [u64], trace: &[u64], count: u64)
+    ensures { λ r. ⌜ now (image .exit) ≡ replayed count (now (trace .entry)) (now (image .entry)) ⌝ }
+{
+    let mut left = count;
+    let mut at: usize = 0;
+    while 0 < left && 1 < trace.len() - at {
+        let index = trace[at];
+        let word = trace[at + 1];
+        arrive(image, index, word);
+        at += 2;
+        left -= 1;
+    }
+}
+
+fn arriving_of(entries: u64, k: u64) -> u64
+    ensures { λ r. ⌜ r ≡ arriving entries k ⌝ }
+{
+    if k < entries { k } else { entries }
+}
+
+// Brings the image back to what was kept before a step, with the first k of the step's entries made.
+pub fn cut_back(image: &mut [u64], before: &[u64], trace: &[u64], entries: u64, k: u64)
+    ensures { λ r. ⌜ now (image .exit) ≡ cutBack (now (image .entry)) (now (before .entry)) (now (trace .entry)) entries k ⌝ }
+{
+    keep(before, image);
+    let count = arriving_of(entries, k);
+    replay(image, trace, count);
+}
