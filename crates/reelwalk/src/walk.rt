@@ -25,7 +25,7 @@ fn image_size(memory: usize, n: u64, m: u64) -> usize
     if size <= memory { size } else { 0 }
 }
 
-// The state with another desk.
+// The state with this desk, which is not lost.
 fn with_desk(s: State, desk: Desk) -> State
     ensures { λ r. ⌜ (r .at ≡ s .at) × (r .have ≡ s .have) × (r .number ≡ s .number) × (r .put ≡ s .put) × (r .size ≡ s .size) ⌝ }
 {
@@ -55,6 +55,7 @@ fn reopen(image: &[u64], s: State) -> State
     with_desk(s, desk)
 }
 
+// Puts the line "bad"; the program stops.
 pub fn bad(output: &mut [u8], mut s: State) -> State
     requires { ⌜ s .put + 256 ≤ length (now output) ⌝ }
     ensures { λ r. ⌜ (r .at ≡ s .at) × (r .have ≡ s .have) × (r .number ≡ s .number) × (r .put ≤ length (now (output .entry))) × (r .size ≡ s .size) ⌝ }
@@ -185,6 +186,7 @@ fn noted(mut s: State, step: Step) -> State
     }
 }
 
+// Makes a step and puts its line.
 fn make(
     image: &mut [u64],
     trace: &mut [u64],
@@ -202,6 +204,7 @@ fn make(
     told(output, s, step, a, false)
 }
 
+// Makes a step that is cut and puts its line.
 fn make_cut(
     image: &mut [u64],
     before: &mut [u64],
@@ -266,6 +269,7 @@ fn opened(output: &mut [u8], mut s: State) -> State
     s
 }
 
+// Opens the image after recovery and puts the line "open".
 fn reopened(image: &[u64], output: &mut [u8], s: State) -> State
     requires { ⌜ Ready s (length (now output)) (length (now image)) ⌝ }
     ensures { λ r. ⌜ (r .at ≡ s .at) × (r .have ≡ s .have) × (r .number ≡ s .number) × (r .put ≤ length (now (output .entry))) × (r .size ≡ s .size) ⌝ }
