@@ -1,14 +1,13 @@
 """Raw cases: one call each, on images and desks that no stream reaches, and
 what the call must answer and leave.
 
-    python3 raw.py in SEED COUNT [narrow] > cases     inputs of COUNT cases
-    python3 raw.py want SEED COUNT [narrow] > lines   what they must give
-    python3 raw.py count SEED COUNT [narrow]          cases by call and answer
-    python3 raw.py show SEED CASE [narrow]            one case in full, as text
+    python3 raw.py in SEED COUNT > cases       inputs of COUNT cases
+    python3 raw.py packed SEED COUNT > cases   the same, packed
+    python3 raw.py want SEED COUNT > lines     what they must give
+    python3 raw.py count SEED COUNT            cases by call and answer
+    python3 raw.py show SEED CASE              one case in full, as text
 
-A case depends on the seed, its own number (from 0) and the word narrow
-alone. With narrow the desk fields fit small types: marks, counts and slots
-8 bits, N, M and copied records 16 bits.
+A case depends on the seed and its own number (from 0) alone.
 
 INPUT. 64-bit words, lowest byte first, case after case up to the end of file:
     word  0       call: 0 lay, 1 begin, 2 read, 3 write, 4 finish, 5 publish,
@@ -26,7 +25,12 @@ is 0xA5A5A5A500000000 + i.
 A DESK is 643 words: clock, N, M; 256 marks (0 none, else session + 1); 16
 session entries of 24 words: phase (0 idle, 1 active, 2 sealed, 3 published),
 its number (0 when idle), count of copies, slot, 4 places of 5 words (record,
-four words).
+four words). Marks fit 8 bits; the other fields may be any 64-bit number.
+
+PACKED. The same words. A byte 0 to 246 is that word. Byte 247 and a byte r,
+2 to 255, are r words 0. A byte 248 to 255 says that 1 to 8 bytes follow
+(byte - 247), lowest first, that are the word. The shortest form is taken; a
+run of zeros ends with its case.
 
 WANT. One line of text a case, 12 decimal fields parted by one space:
     case, call, answer, value, four words, entries,
@@ -41,11 +45,14 @@ takes no such part (lay: image alone; begin, publish, abandon: desk alone;
 open: image and the desk it gives; read, write: image and desk; recover:
 image and strip).
 
-DIGEST of k words, modulo 2 to the 64th: d = k at first, then for each word
-    d = d * 6364136223846793005 + word + 1442695040888963407
+DIGEST of k words: d = k at first, then for each word w, with its parts
+w % 2**32 and then w // 2**32:
+    d = (d * 1000003 + part) % 4294967291
+No sum or product in it reaches 2 to the 64th.
 """
 
 import copy
+import itertools
 import random
 import struct
 import sys
@@ -55,6 +62,7 @@ import store
 from store import L
 
 TOP = 2 ** 64 - 1
+MOST = {"N": 256, "M": 16}
 CALLS = ["lay", "begin", "read", "write", "finish", "publish", "settle",
          "reclaim", "abandon", "open", "recover"]
 PHASES = ["idle", "active", "sealed", "published"]
@@ -116,10 +124,34 @@ def answer_number(answer):
     return 20 + ANSWERS.index(answer["name"])
 
 
+def packed_word(word):
+    """The bytes of one word, in the shortest form."""
+    if word <= 246:
+        return bytes([word])
+    size = (word.bit_length() + 7) // 8
+    return bytes([247 + size]) + word.to_bytes(size, "little")
+
+
+def packed_zeros(times):
+    """The bytes of a run of zeros: full runs, and then what is left."""
+    full, rest = divmod(times, 255)
+    return bytes([247, 255]) * full + (bytes(rest) if rest < 2 else bytes([247, rest]))
+
+
+def packed(words):
+    """The words of one case, packed."""
+    out = []
+    for zero, run in itertools.groupby(words, lambda word: word == 0):
+        run = list(run)
+        out += [packed_zeros(len(run))] if zero else [packed_word(word) for word in run]
+    return b"".join(out)
+
+
 def digest(words):
     d = len(words)
     for word in words:
-        d = (d * 6364136223846793005 + word + 1442695040888963407) & TOP
+        for part in (word % 2 ** 32, word // 2 ** 32):
+            d = (d * 1000003 + part) % 4294967291
     return d
 
 
@@ -143,7 +175,10 @@ SIZES = [(1, 1), (1, 2), (2, 1), (2, 2), (3, 3), (5, 2), (8, 4), (12, 3), (9, 16
 
 
 def some_word(rng):
-    return rng.choice([0, 1, rng.randrange(300), TOP, rng.getrandbits(64)])
+    """A word of one byte mostly, a longer one about 1 time in 12."""
+    if rng.randrange(12) == 0:
+        return rng.choice([TOP, rng.getrandbits(64), rng.getrandbits(16)])
+    return rng.choice([0, 0, 1, rng.randrange(247)])
 
 
 def log_words(rng, n, number, records):
@@ -307,55 +342,42 @@ def clear(desk):
     desk.update(store.new_desk(desk["clock"], desk["N"], desk["M"]))
 
 
-def clock_zero(rng, desk, wide):
-    clear(desk)
-    desk["clock"] = 0
+def zero(field):
+    def alter(rng, desk):
+        clear(desk)
+        desk[field] = 0
+    return alter
 
 
-def clock_high(rng, desk, wide):
+def clock_high(rng, desk):
     sealed = sum(e["phase"] == "sealed" for e in desk["sessions"])
     desk["clock"] = L + 17 - sealed + rng.randrange(sealed + 2)
 
 
-def clock_top(rng, desk, wide):
+def clock_top(rng, desk):
     desk["clock"] = rng.choice([TOP, TOP - 15, 2 ** 63])
 
 
-def n_zero(rng, desk, wide):
-    clear(desk)
-    desk["N"] = 0
+def size_high(size):
+    def alter(rng, desk):
+        desk[size] = rng.choice([MOST[size] + 1, MOST[size] + 2, TOP])
+    return alter
 
 
-def n_high(rng, desk, wide):
-    desk["N"] = rng.choice([257, 258, TOP if wide else 65535])
+def size_other(size):
+    def alter(rng, desk):
+        desk[size] += rng.choice([1, -1, rng.randrange(1, MOST[size])])
+        return 1 <= desk[size] <= MOST[size]
+    return alter
 
 
-def m_zero(rng, desk, wide):
-    clear(desk)
-    desk["M"] = 0
-
-
-def m_high(rng, desk, wide):
-    desk["M"] = rng.choice([17, 18, TOP if wide else 65535])
-
-
-def n_other(rng, desk, wide):
-    desk["N"] += rng.choice([1, -1, rng.randrange(1, 200)])
-    return 1 <= desk["N"] <= 256
-
-
-def m_other(rng, desk, wide):
-    desk["M"] += rng.choice([1, -1, rng.randrange(1, 16)])
-    return 1 <= desk["M"] <= 16
-
-
-def same_length(rng, desk, wide):
+def same_length(rng, desk):
     """Another N and M that give the same length of the image."""
     desk["N"], desk["M"] = rng.choice([(desk["N"] + 11, desk["M"] - 1), (desk["N"] - 11, desk["M"] + 1)])
     return store.in_range(desk["N"], desk["M"])
 
 
-def idle_copy(rng, desk, wide):
+def idle_copy(rng, desk):
     found = [s for s in range(desk["M"]) if desk["sessions"][s]["phase"] == "idle"]
     record = free_record(rng, desk)
     if not found or record is None:
@@ -365,15 +387,15 @@ def idle_copy(rng, desk, wide):
     desk["marks"][record] = session
 
 
-def five_copies(rng, desk, wide):
+def five_copies(rng, desk):
     e = pick(rng, desk, PHASES[1:], 4)
     if e is None:
         return False
-    e["count"] = rng.choice([5, 6, 255, TOP if wide else 255])
+    e["count"] = rng.choice([5, 6, 255, TOP])
 
 
 def no_copies(phase):
-    def alter(rng, desk, wide):
+    def alter(rng, desk):
         e = pick(rng, desk, ["idle", "active"], 0, 0)
         if e is None:
             return False
@@ -382,7 +404,7 @@ def no_copies(phase):
 
 
 def number_at(phase, values):
-    def alter(rng, desk, wide):
+    def alter(rng, desk):
         e = pick(rng, desk, [phase])
         if e is None:
             return False
@@ -390,14 +412,14 @@ def number_at(phase, values):
     return alter
 
 
-def slot_two(rng, desk, wide):
+def slot_two(rng, desk):
     e = pick(rng, desk, PHASES[1:], 1)
     if e is None:
         return False
-    e["slot"] = rng.choice([2, 3, TOP if wide else 255])
+    e["slot"] = rng.choice([2, 3, TOP])
 
 
-def slot_unused(rng, desk, wide):
+def slot_unused(rng, desk):
     found = [e for e in desk["sessions"] if e["count"] == 0]
     if not found:
         return False
@@ -405,14 +427,14 @@ def slot_unused(rng, desk, wide):
 
 
 def unused(part):
-    def alter(rng, desk, wide):
+    def alter(rng, desk):
         found = [e for e in desk["sessions"] if e["count"] < 4]
         if not found:
             return False
         e = rng.choice(found)
         place = e["places"][rng.randrange(e["count"], 4)]
         if part == "record":
-            place[0] = rng.choice([1, desk["N"], TOP if wide else 65535])
+            place[0] = rng.choice([1, desk["N"], TOP])
         else:
             place[1][rng.randrange(4)] = rng.choice([1, TOP])
     return alter
@@ -425,15 +447,15 @@ def move_copy(desk, e, record):
     place[0] = record
 
 
-def record_past_marks(rng, desk, wide):
+def record_past_marks(rng, desk):
     e = pick(rng, desk, PHASES[1:], 1)
     if e is None:
         return False
-    move_copy(desk, e, rng.choice([256, 257, TOP if wide else 65535]))
+    move_copy(desk, e, rng.choice([256, 257, TOP]))
 
 
 def record_at_n(marked):
-    def alter(rng, desk, wide):
+    def alter(rng, desk):
         e = pick(rng, desk, PHASES[1:], 1)
         if e is None or desk["N"] == 256:
             return False
@@ -444,51 +466,51 @@ def record_at_n(marked):
     return alter
 
 
-def record_twice(rng, desk, wide):
+def record_twice(rng, desk):
     e = pick(rng, desk, PHASES[1:], 2)
     if e is None:
         return False
     move_copy(desk, e, e["places"][rng.randrange(e["count"] - 1)][0])
 
 
-def mark_missing(rng, desk, wide):
+def mark_missing(rng, desk):
     e = pick(rng, desk, PHASES[1:], 1)
     if e is None:
         return False
     desk["marks"][e["places"][rng.randrange(e["count"])][0]] = None
 
 
-def mark_other(rng, desk, wide):
+def mark_other(rng, desk):
     e = pick(rng, desk, PHASES[1:], 1)
     if e is None:
         return False
     record = e["places"][rng.randrange(e["count"])][0]
     others = [s for s in range(16) if s != desk["marks"][record]]
-    desk["marks"][record] = rng.choice(others + [16, TOP - 1 if wide else 254])
+    desk["marks"][record] = rng.choice(others + [16, 254])
 
 
-def mark_spare(rng, desk, wide):
+def mark_spare(rng, desk):
     record = free_record(rng, desk)
     if record is None:
         return False
-    desk["marks"][record] = rng.choice([0, desk["M"] - 1, 15, 16, TOP - 1 if wide else 254])
+    desk["marks"][record] = rng.choice([0, desk["M"] - 1, 15, 16, 254])
 
 
-def two_copiers(rng, desk, wide):
+def two_copiers(rng, desk):
     one, other = pick(rng, desk, PHASES[1:], 1), pick(rng, desk, PHASES[1:], 1)
     if one is None or one is other:
         return False
     move_copy(desk, one, other["places"][0][0])
 
 
-def mark_past_n(rng, desk, wide):
+def mark_past_n(rng, desk):
     if desk["N"] == 256:
         return False
     desk["marks"][rng.choice([desk["N"], 255])] = rng.randrange(desk["M"])
 
 
 def entry_past_m(phase):
-    def alter(rng, desk, wide):
+    def alter(rng, desk):
         record = free_record(rng, desk)
         if desk["M"] == 16 or record is None:
             return False
@@ -501,15 +523,15 @@ def entry_past_m(phase):
 
 
 BREAKS = {
-    "clock zero": (clock_zero, ["clock"]),
+    "clock zero": (zero("clock"), ["clock"]),
     "clock high": (clock_high, ["clock"]),
     "clock top": (clock_top, ["clock"]),
-    "N zero": (n_zero, ["sizes"]),
-    "N high": (n_high, ["sizes"]),
-    "M zero": (m_zero, ["sizes"]),
-    "M high": (m_high, ["sizes"]),
-    "N not the header's": (n_other, ["sizes"]),
-    "M not the header's": (m_other, ["sizes"]),
+    "N zero": (zero("N"), ["sizes"]),
+    "N high": (size_high("N"), ["sizes"]),
+    "M zero": (zero("M"), ["sizes"]),
+    "M high": (size_high("M"), ["sizes"]),
+    "N not the header's": (size_other("N"), ["sizes"]),
+    "M not the header's": (size_other("M"), ["sizes"]),
     "same length": (same_length, ["sizes"]),
     "idle with a copy": (idle_copy, ["counts"]),
     "five copies": (five_copies, ["counts"]),
@@ -541,11 +563,11 @@ BREAKS = {
 NEED_IMAGE = ["N not the header's", "M not the header's", "same length"]
 
 
-def broken_desk(rng, desk, image, name, wide):
+def broken_desk(rng, desk, image, name):
     """A copy of the desk with just these rules broken, or None."""
     alter, rules = BREAKS[name]
     desk = copy.deepcopy(desk)
-    if alter(rng, desk, wide) is False:
+    if alter(rng, desk) is False:
         return None
     return desk if store.broken_rules(desk, image) == rules else None
 
@@ -645,7 +667,7 @@ def far(rng, limit):
         if limit <= 16 else rng.choice([limit, limit, limit + 1, 256, 2 ** 32, 2 ** 63, TOP])
 
 
-def spoil(rng, case, number, wide):
+def spoil(rng, case, number):
     """Gives a session call a cause for one of the refusals 1 to 5."""
     call = case["call"]
     if number == 1:
@@ -654,7 +676,7 @@ def spoil(rng, case, number, wide):
         names = [name for name in BREAKS if call in WITH_IMAGE or name not in NEED_IMAGE]
         desk = None
         while desk is None:
-            desk = broken_desk(rng, case["desk"], case["image"], rng.choice(names), wide)
+            desk = broken_desk(rng, case["desk"], case["image"], rng.choice(names))
         case["desk"] = desk
     elif number == 3:
         case["strip"] = rng.choice([0, 1, 24, 46, 47, 47])
@@ -699,13 +721,13 @@ def outcome(case):
     return answer["number"] or answer["name"]
 
 
-def aimed(rng, call, aim, wide):
+def aimed(rng, call, aim):
     """A case of this call with this answer."""
     if call in WITH_DESK and aim in causes(call):
         case = session_scene(rng, call)
         others = [k for k in causes(call) if k > aim and rng.random() < 0.3]
         for number in sorted([aim] + others, reverse=True):  # 1 and 2 go last
-            spoil(rng, case, number, wide)
+            spoil(rng, case, number)
         return case
     while True:
         case = scene(rng, call, aim)
@@ -713,12 +735,12 @@ def aimed(rng, call, aim, wide):
             return case
 
 
-def broken(rng, name, wide):
+def broken(rng, name):
     """A case refused by 2, with just this break."""
     calls = [c for c in WITH_DESK if c in WITH_IMAGE or name not in NEED_IMAGE]
     while True:
         case = session_scene(rng, rng.choice(calls))
-        case["desk"] = broken_desk(rng, case["desk"], case["image"], name, wide)
+        case["desk"] = broken_desk(rng, case["desk"], case["image"], name)
         if case["desk"] is not None:
             return case
 
@@ -756,12 +778,12 @@ def largest(rng, call):
     return case
 
 
-def make(seed, number, narrow=False):
+def make(seed, number):
     """The case with this number, and what it is aimed at."""
     rng = random.Random("%d/%d" % (seed, number))
     kind, what = TURNS[number % len(TURNS)]
     if kind == "break":
-        return broken(rng, what, not narrow), (None, 2)
+        return broken(rng, what), (None, 2)
     if kind == "copies":
         return full(rng, what), (what, None)
     if kind == "any":
@@ -770,14 +792,14 @@ def make(seed, number, narrow=False):
         return at_clock(rng, what, kind), (what, None)
     if kind == "largest":
         return largest(rng, what), (what, 1)
-    return aimed(rng, kind, what, not narrow), (kind, what)
+    return aimed(rng, kind, what), (kind, what)
 
 
 # ---- the program ---------------------------------------------------------
 
-def show(seed, number, narrow):
+def show(seed, number):
     """One case in full, as text."""
-    case, _ = make(seed, number, narrow)
+    case, _ = make(seed, number)
     done = run(case)
     for name in ("call", "N", "M", "session", "record", "words", "strip"):
         print("%-8s %s" % (name, case[name]))
@@ -797,11 +819,11 @@ def show(seed, number, narrow):
     print("want %s" % want_line(number, case))
 
 
-def count(seed, cases, narrow):
+def count(seed, cases):
     """How many cases there are by call and answer."""
     seen = Counter()
     for number in range(cases):
-        case, _ = make(seed, number, narrow)
+        case, _ = make(seed, number)
         got = outcome(case)
         seen[case["call"], "no %2d" % got if isinstance(got, int) else got] += 1
     for (call, got), times in sorted(seen.items()):
@@ -809,18 +831,20 @@ def count(seed, cases, narrow):
 
 
 def main(words):
-    if len(words) < 3 or words[0] not in ("in", "want", "count", "show"):
+    if len(words) != 3 or words[0] not in ("in", "packed", "want", "count", "show"):
         sys.exit(__doc__)
-    seed, cases, narrow = int(words[1]), int(words[2]), "narrow" in words[3:]
+    seed, cases = int(words[1]), int(words[2])
     if words[0] == "show":
-        return show(seed, cases, narrow)
+        return show(seed, cases)
     if words[0] == "count":
-        return count(seed, cases, narrow)
+        return count(seed, cases)
     for number in range(cases):
-        case, _ = make(seed, number, narrow)
+        case, _ = make(seed, number)
         if words[0] == "in":
             out = case_words(case)
             sys.stdout.buffer.write(struct.pack("<%dQ" % len(out), *out))
+        elif words[0] == "packed":
+            sys.stdout.buffer.write(packed(case_words(case)))
         else:
             print(want_line(number, case))
 

@@ -557,25 +557,30 @@ def case_read(words):
     return case, words[at:]
 
 
-def fits_narrow(desk):
-    """Marks, counts and slots in 8 bits, N, M and copied records in 16."""
-    small = [mark + 1 for mark in desk["marks"] if mark is not None]
-    small += [e[field] for e in desk["sessions"] for field in ("count", "slot")]
-    wide = [desk["N"], desk["M"]] + [p[0] for e in desk["sessions"] for p in e["places"]]
-    return max(small) < 2 ** 8 and max(wide) < 2 ** 16
+def unpacked(data):
+    """The words of a packed case."""
+    words, at = [], 0
+    while at < len(data):
+        size = max(0, data[at] - 247)
+        if data[at] == 247:
+            words += [0] * data[at + 1]
+            size = 1
+        else:
+            words.append(int.from_bytes(data[at + 1:at + 1 + size], "little") if size else data[at])
+        at += 1 + size
+    return words
 
 
 def raw_cases(st):
     """Each raw case meets its aim; refusals leave all; every answer occurs."""
     seen, cases = set(), 4 * len(raw.TURNS)
     for number in range(cases):
-        case, (call, aim) = raw.make(5, number, narrow=number % 2 == 1)
+        case, (call, aim) = raw.make(5, number)
         before = raw.case_words(case)
         done = raw.run(case)
         same(raw.case_words(case), before, "a call altered its input")
         same(case_read(before), (case, []), "raw case %d read back" % number)
-        if number % 2 == 1 and case["desk"]:
-            same(fits_narrow(case["desk"]), True, "narrow raw case %d" % number)
+        same(unpacked(raw.packed(before)), before, "raw case %d unpacked" % number)
         got = done["answer"]["number"] or done["answer"]["name"]
         seen.add((case["call"], got))
         if call is not None:
@@ -587,7 +592,8 @@ def raw_cases(st):
             same(done["image"], case["image"], "image of a refusal")
             if case["call"] != "open":
                 same(done["desk"], case["desk"], "desk of a refusal")
-        if max(before) > TOP or len(case["image"] or []) > 1800 or case["strip"] > 64:
+        if max(before) > TOP or max(before[14:270]) > 255 \
+                or len(case["image"] or []) > 1800 or case["strip"] > 64:
             raise AssertionError("raw case %d out of the stated bounds" % number)
     wanted = {(call, aim) for call in raw.AIMS for aim in raw.AIMS[call]}
     same(sorted(map(str, wanted - seen)), [], "answers that no raw case has")
