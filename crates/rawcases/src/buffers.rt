@@ -1,31 +1,8 @@
 // The program's input and output through buffers of fixed size. The functions here are for use inside this crate.
 ghost use mathlib.Core.Path.{_≡_};
-ghost use Prim.Native.Nat.{_+_, _≤_};
+ghost use Prim.Native.Nat.{_≤_};
 ghost use lib.ListN.{length};
 use crate::state::State;
-
-// Moves the n bytes from `from` on to the start.
-fn shift(buf: &mut [u8], from: usize, n: usize)
-    requires { ⌜ from + n ≤ length (now buf) ⌝ }
-{
-    let mut j: usize = 0;
-    while j < n {
-        buf[j] = buf[from + j];
-        j += 1;
-    }
-}
-
-// Moves what is left of the input to the start and reads once behind it; the answer is how many bytes are held then.
-fn refill(buf: &mut [u8], at: usize, have: usize) -> usize
-    requires { ⌜ (at ≤ have) × (have ≤ length (now buf)) ⌝ }
-    ensures { λ r. ⌜ r ≤ length (now (buf .entry)) ⌝ }
-{
-    let left = have - at;
-    shift(buf, at, left);
-    let got = libc::read(0, &mut buf[left..]);
-    let n = io::count(got, &buf[left..]);
-    left + n
-}
 
 // Takes more input; it has ended where nothing came.
 pub fn fill(input: &mut [u8], mut s: State) -> State
@@ -34,7 +11,7 @@ pub fn fill(input: &mut [u8], mut s: State) -> State
 {
     let at = s.at;
     let have = s.have;
-    let now = refill(input, at, have);
+    let now = feed::refill(input, at, have);
     s.at = 0;
     s.have = now;
     s.ended = now <= have - at;

@@ -1,0 +1,17 @@
+use lib.Seq.{length-take-le}
+use mathlib.Core.Path.{sym}
+use borrow.Author.Needs.{needs}
+use Rattle.walk.proofs.buffers.flush.Statement.{statement}
+use Rattle.walk.proofs.buffers.flush.Tie as tie
+
+slice-aggregate-write-all : tie.Need-slice-aggregate-write-all
+slice-aggregate-write-all c = sym (length-take-le ((c .before .before) .args .s .put) ((c .before .before) .args .output .now) (search needs))
+
+write-all-requires : tie.Need-write-all-requires
+write-all-requires c κs = search needs
+
+returns : tie.Need-returns
+returns c = search needs
+
+pub flush-spec : {M : Type 1} → statement M
+flush-spec = tie.close (tie.spec slice-aggregate-write-all write-all-requires returns)

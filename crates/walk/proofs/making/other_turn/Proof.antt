@@ -1,0 +1,122 @@
+use mathlib.Core.Path.{sym}
+use lib.Seq.{length-take-le}
+use borrow.Author.Needs.{needs}
+use Rattle.walk.proofs.making.other_turn.Statement.{statement}
+use Rattle.walk.proofs.making.other_turn.Tie as tie
+
+enum-told : tie.Need-enum-told
+enum-told c = search needs
+
+fill-requires : tie.Need-fill-requires
+fill-requires c κs = search needs
+
+enum-told-2 : tie.Need-enum-told-2
+enum-told-2 c = search needs
+
+slice-relend-prefix-resume : tie.Need-slice-relend-prefix-resume
+slice-relend-prefix-resume c = search needs
+
+slice-aggregate-resume : tie.Need-slice-aggregate-resume
+slice-aggregate-resume c = sym (length-take-le ((c .before .before .before .before .before .before .before) .args .s .size) ((c .before .before .before .before .before .before .before) .args .image .now) (search needs))
+
+resume-requires : tie.Need-resume-requires
+resume-requires c κs = search needs
+
+enum-known-turn : tie.Need-enum-known-turn
+enum-known-turn c = search needs
+
+lay-requires : tie.Need-lay-requires
+lay-requires c κs = search needs
+
+enum-told-3 : tie.Need-enum-told-3
+enum-told-3 c = search needs
+
+bad-requires : tie.Need-bad-requires
+bad-requires c κs = search needs
+
+enum-told-4 : tie.Need-enum-told-4
+enum-told-4 c = search needs
+
+stopped-requires : tie.Need-stopped-requires
+stopped-requires c κs = search needs
+
+enum-told-5 : tie.Need-enum-told-5
+enum-told-5 c = search needs
+
+enum-told-6 : tie.Need-enum-told-6
+enum-told-6 c = search needs
+
+same-length : tie.Need-same-length
+same-length c = search needs
+
+returns : tie.Need-returns
+returns c = search needs
+
+same-length-2 : tie.Need-same-length-2
+same-length-2 c = search needs
+
+same-length-3 : tie.Need-same-length-3
+same-length-3 c = search needs
+
+same-length-4 : tie.Need-same-length-4
+same-length-4 c = search needs
+
+returns-2 : tie.Need-returns-2
+returns-2 c = search needs
+
+same-length-5 : tie.Need-same-length-5
+same-length-5 c = search needs
+
+same-length-6 : tie.Need-same-length-6
+same-length-6 c = search needs
+
+returns-3 : tie.Need-returns-3
+returns-3 c = search needs
+
+same-length-7 : tie.Need-same-length-7
+same-length-7 c = search needs
+
+returns-4 : tie.Need-returns-4
+returns-4 c = search needs
+
+returns-5 : tie.Need-returns-5
+returns-5 c = search needs
+
+returns-6 : tie.Need-returns-6
+returns-6 c = search needs
+
+returns-7 : tie.Need-returns-7
+returns-7 c = search needs
+
+pub other-turn-spec : {M : Type 1} → statement M
+other-turn-spec =
+    tie.close
+    (tie.spec
+    enum-told
+    fill-requires
+    enum-told-2
+    slice-relend-prefix-resume
+    slice-aggregate-resume
+    resume-requires
+    enum-known-turn
+    lay-requires
+    enum-told-3
+    bad-requires
+    enum-told-4
+    stopped-requires
+    enum-told-5
+    enum-told-6
+    same-length
+    returns
+    same-length-2
+    same-length-3
+    same-length-4
+    returns-2
+    same-length-5
+    same-length-6
+    returns-3
+    same-length-7
+    returns-4
+    returns-5
+    returns-6
+    returns-7)

@@ -1,0 +1,227 @@
+// One step on the store, and the lines that it prints. The functions here are for use inside this crate.
+ghost use mathlib.Core.Path.{_≡_};
+ghost use Prim.Native.Nat.{_+_, _≤_};
+ghost use lib.ListN.{length};
+ghost use Rattle.walk.specs.Bounds.{Within, Ready, Follows};
+use crate::buffers::fill;
+use crate::state::State;
+use crate::state::stopped;
+use crate::turn::Turn;
+use desk::Desk;
+use layout::LayAnswer;
+use steps::Applied;
+use steps::Outcome;
+use steps::Step;
+use store::RecoverAnswer;
+
+// The words of an image for n records and m sessions; 0 where the memory has fewer.
+fn image_size(memory: usize, n: u64, m: u64) -> usize
+    ensures { λ r. ⌜ r ≤ memory ⌝ }
+{
+    if 256 < n {
+        return 0;
+    }
+    if 16 < m {
+        return 0;
+    }
+    let size = (4 + 4 * n + 44 * m) as usize;
+    if size <= memory { size } else { 0 }
+}
+
+// Puts the line "bad"; the walk stops.
+fn bad(output: &mut [u8], mut s: State) -> State
+    requires { ⌜ s .put + 256 ≤ length (now output) ⌝ }
+    ensures { λ r. ⌜ Follows s r (length (now (output .entry))) (s .size) ⌝ }
+{
+    let put = s.put;
+    let number = s.number;
+    s.put = steps::put_bad(output, put, number);
+    s.stopped = true;
+    s
+}
+
+// Lays the image, which is then to be opened; refused, the walk stops.
+fn lay(image: &mut [u64], output: &mut [u8], mut s: State, n: u64, m: u64) -> State
+    requires { ⌜ Ready s (length (now output)) (length (now image)) ⌝ }
+    ensures { λ r. ⌜ Follows s r (length (now (output .entry))) (length (now (image .entry))) ⌝ }
+{
+    let size = image_size(image.len(), n, m);
+    let put = s.put;
+    let number = s.number;
+    let step = Step::Lay(n, m);
+    let answer = layout::lay(&mut image[..size], n, m);
+    match answer {
+        LayAnswer::Refused(k) => {
+            s.put = steps::put_line(output, put, number, step, Outcome::Refused(k), [0; 4]);
+            s.stopped = true;
+            s
+        }
+        LayAnswer::Laid => {
+            s.put = steps::put_line(output, put, number, step, Outcome::Ok, [0; 4]);
+            s.size = size;
+            s.closed = true;
+            s
+        }
+    }
+}
+
+// The steps that a cut waits for.
+fn stores(step: Step) -> bool {
+    match step {
+        Step::Finish(_) => true,
+        Step::Settle(_) => true,
+        Step::Reclaim(_) => true,
+        _ => false,
+    }
+}
+
+// Whether the step is cut.
+fn is_cut(s: State, step: Step) -> bool {
+    let cutting = s.cutting;
+    cutting & stores(step)
+}
+
+// Makes a step of whose entries only the first k arrive.
+fn make_cut(
+    image: &mut [u64],
+    before: &mut [u64],
+    trace: &mut [u64],
+    desk: Desk,
+    step: Step,
+    k: u64,
+) -> Applied {
+    steps::keep(image, before);
+    let a = steps::apply(image, desk, trace, step, [0; 4]);
+    steps::cut_back(image, before, trace, a.entries, k);
+    a
+}
+
+// Makes a step, whole or cut.
+pub fn make(
+    image: &mut [u64],
+    before: &mut [u64],
+    trace: &mut [u64],
+    desk: Desk,
+    step: Step,
+    words: [u64; 4],
+    s: State,
+) -> Applied {
+    if is_cut(s, step) {
+        return make_cut(image, before, trace, desk, step, s.cut);
+    }
+    steps::apply(image, desk, trace, step, words)
+}
+
+// The result of a step: "cut" where it is cut and has entries.
+fn result(outcome: Outcome, cut: bool, entries: u64) -> Outcome {
+    if cut & (entries != 0) {
+        Outcome::Cut
+    } else {
+        outcome
+    }
+}
+
+// Notes the cut of a step 9; a second one replaces it.
+fn noted(mut s: State, step: Step) -> State
+    ensures { λ r. ⌜ Follows s r (s .put) (s .size) ⌝ }
+{
+    match step {
+        Step::Cut(k) => {
+            s.cut = k;
+            s.cutting = true;
+            s
+        }
+        _ => s,
+    }
+}
+
+// Puts the line of a step that was made; after a cut the desk is lost.
+pub fn tell(
+    output: &mut [u8],
+    s: State,
+    step: Step,
+    outcome: Outcome,
+    words: [u64; 4],
+    entries: u64,
+) -> State
+    requires { ⌜ s .put + 256 ≤ length (now output) ⌝ }
+    ensures { λ r. ⌜ Follows s r (length (now (output .entry))) (s .size) ⌝ }
+{
+    let cut = is_cut(s, step);
+    let mut t = noted(s, step);
+    t.put = steps::put_line(
+        output,
+        s.put,
+        s.number,
+        step,
+        result(outcome, cut, entries),
+        words,
+    );
+    if cut {
+        t.cutting = false;
+        t.lost = true;
+    }
+    t
+}
+
+fn replayed(output: &mut [u8], mut s: State, persist: u64) -> State
+    requires { ⌜ s .put + 256 ≤ length (now output) ⌝ }
+    ensures { λ r. ⌜ Follows s r (length (now (output .entry))) (s .size) ⌝ }
+{
+    let put = s.put;
+    let number = s.number;
+    s.put = steps::put_replayed(output, put, number, persist);
+    s
+}
+
+// Puts the line "open"; the image is then to be opened.
+fn recovered(output: &mut [u8], mut s: State) -> State
+    requires { ⌜ s .put + 256 ≤ length (now output) ⌝ }
+    ensures { λ r. ⌜ Follows s r (length (now (output .entry))) (s .size) ⌝ }
+{
+    let put = s.put;
+    let number = s.number;
+    s.put = steps::put_open(output, put, number);
+    s.lost = false;
+    s.closed = true;
+    s
+}
+
+// One call of recover after a cut, until it finds nothing to replay.
+fn resume(image: &mut [u64], trace: &mut [u64], output: &mut [u8], s: State) -> State
+    requires { ⌜ s .put + 256 ≤ length (now output) ⌝ }
+    ensures { λ r. ⌜ Follows s r (length (now (output .entry))) (s .size) ⌝ }
+{
+    let r = store::recover(image, trace);
+    let answer = r.answer;
+    match answer {
+        RecoverAnswer::Replayed(p) => replayed(output, s, p),
+        _ => recovered(output, s),
+    }
+}
+
+// A turn that leaves the desk as it is.
+pub fn other_turn(
+    input: &mut [u8],
+    image: &mut [u64],
+    trace: &mut [u64],
+    output: &mut [u8],
+    s: State,
+    turn: Turn,
+) -> State
+    requires { ⌜ Within s (length (now input)) (length (now output)) (length (now image)) × (s .put + 256 ≤ length (now output)) ⌝ }
+    ensures { λ r. ⌜ Within r (length (now (input .entry))) (length (now (output .entry))) (length (now (image .entry))) × (r .number ≡ s .number) ⌝ }
+{
+    match turn {
+        Turn::Fill => fill(input, s),
+        Turn::Recover => {
+            let size = s.size;
+            resume(&mut image[..size], trace, output, s)
+        }
+        Turn::Lay(n, m) => lay(image, output, s, n, m),
+        Turn::Bad => bad(output, s),
+        Turn::End => stopped(s),
+        Turn::Open => s,
+        Turn::Call(_) => s,
+    }
+}

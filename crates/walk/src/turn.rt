@@ -1,0 +1,102 @@
+// What the next turn of a walk does. The functions here are for use inside this crate.
+ghost use mathlib.Core.Path.{_≡_};
+ghost use Prim.Native.Nat.{_+_, _≤_, _<_, _^_};
+ghost use lib.ListN.{length};
+use crate::buffers::roomy;
+use crate::state::State;
+use crate::state::counted;
+use steps::Found;
+use steps::Step;
+
+// Opens the image, makes a call of recover, reads, makes a step on the opened store, lays the image, or stops, with the line "bad" or without.
+pub enum Turn {
+    Open,
+    Recover,
+    Fill,
+    Call(Step),
+    Lay(u64, u64),
+    Bad,
+    End,
+}
+
+// The turn, the words of a write, and the state, behind the step that is taken.
+pub struct Taken {
+    pub turn: Turn,
+    pub words: [u64; 4],
+    pub state: State,
+}
+
+// The first step has to be 0, and no later one may be.
+fn step_turn(step: Step, laid: bool) -> Turn {
+    match step {
+        Step::Lay(n, m) => { if laid { Turn::Bad } else { Turn::Lay(n, m) } }
+        _ => { if laid { Turn::Call(step) } else { Turn::Bad } }
+    }
+}
+
+// An unknown kind and a short body are bad; the input may end before any step.
+fn found_turn(found: Found, laid: bool) -> Turn {
+    match found {
+        Found::Whole(step) => step_turn(step, laid),
+        Found::Bad => Turn::Bad,
+        Found::Short => Turn::Bad,
+        Found::End => Turn::End,
+    }
+}
+
+// A turn that takes no step.
+fn aside(turn: Turn, s: State) -> Taken
+    ensures { λ r. ⌜ (r .state .at ≡ s .at) × (r .state .have ≡ s .have) × (r .state .put ≡ s .put) × (r .state .size ≡ s .size) × (r .state .number ≡ s .number) ⌝ }
+{
+    Taken {
+        turn: turn,
+        words: [0; 4],
+        state: s,
+    }
+}
+
+// Decodes the next step and counts it.
+fn take_step(input: &[u8], s: State) -> Taken
+    requires { ⌜ (s .at ≤ s .have) × (s .have ≤ length (now input)) × (s .number + 1 < 2 ^ 64) ⌝ }
+    ensures { λ r. ⌜ (r .state .at ≤ r .state .have) × (r .state .have ≡ s .have) × (r .state .put ≡ s .put) × (r .state .size ≡ s .size) × (r .state .number ≡ s .number + 1) ⌝ }
+{
+    let at = s.at;
+    let have = s.have;
+    let d = steps::decode(&input[at..have]);
+    let bytes = d.size;
+    let words = d.words;
+    let found = d.found;
+    let t = counted(s, bytes);
+    Taken {
+        turn: found_turn(found, t.size != 0),
+        words: words,
+        state: t,
+    }
+}
+
+// What to do with room for a line. It reads where the input held may be less than a step, and more may come.
+fn turn_of(input: &[u8], s: State) -> Taken
+    requires { ⌜ (s .at ≤ s .have) × (s .have ≤ length (now input)) × (s .number + 1 < 2 ^ 64) ⌝ }
+    ensures { λ r. ⌜ (r .state .at ≤ r .state .have) × (r .state .have ≡ s .have) × (r .state .put ≡ s .put) × (r .state .size ≡ s .size) × (r .state .number ≤ s .number + 1) ⌝ }
+{
+    if s.closed {
+        return aside(Turn::Open, s);
+    }
+    if s.lost {
+        return aside(Turn::Recover, s);
+    }
+    let ended = s.ended;
+    if !ended & (s.have - s.at < 35) {
+        return aside(Turn::Fill, s);
+    }
+    take_step(input, s)
+}
+
+// The next turn; where there is little room for its line, the lines put so far are written first.
+pub fn next_turn(input: &[u8], output: &[u8], s: State) -> Taken
+    requires { ⌜ (s .at ≤ s .have) × (s .have ≤ length (now input)) × (s .put ≤ length (now output)) × (256 ≤ length (now output)) × (s .number + 1 < 2 ^ 64) ⌝ }
+    ensures { λ r. ⌜ (r .state .at ≤ r .state .have) × (r .state .have ≡ s .have) × (r .state .put + 256 ≤ length (now (output .entry))) × (r .state .size ≡ s .size) × (r .state .number ≤ s .number + 1) ⌝ }
+{
+    let t = roomy(output, s);
+    turn_of(input, t)
+}
