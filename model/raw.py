@@ -712,7 +712,7 @@ TURNS = ([(call, aim) for call in AIMS for aim in AIMS[call]]
          + [("any", call) for call in WITH_DESK]
          + [(edge, call) for edge in CLOCKS for call in ("finish", "publish", "begin")]
          + [("largest", call) for call in WITH_IMAGE]
-         + [("recover", 12), ("recover", "replayed")])
+         + [("second slot", "write"), ("recover", "replayed")])
 
 
 def outcome(case):
@@ -754,6 +754,16 @@ def full(rng, call):
             return case
 
 
+def second_slot(rng):
+    """A first write with the lower slot occupied."""
+    while True:
+        case = session_scene(rng, "write")
+        session = case["session"]
+        done = run(case)
+        if case["desk"]["sessions"][session]["count"] == 0 and done["desk"]["sessions"][session]["slot"] == 1:
+            return case
+
+
 def at_clock(rng, call, edge):
     """A call in range and in phase, with the clock at an edge."""
     while True:
@@ -786,6 +796,8 @@ def make(seed, number):
         return broken(rng, what), (None, 2)
     if kind == "copies":
         return full(rng, what), (what, None)
+    if kind == "second slot":
+        return second_slot(rng), (what, "ok")
     if kind == "any":
         return session_scene(rng, what), (what, None)
     if kind in CLOCKS:

@@ -153,60 +153,51 @@ def label(line):
 
 # ---- kinds ---------------------------------------------------------------
 
+def run_of(rng, steps, n, m, **options):
+    """A store of this size, and a run of so many steps on it."""
+    maker = Maker(rng, n, m, **options)
+    maker.go(steps)
+    return maker.bytes
+
+
 def mix(rng):
     """Any size, everything in proportion."""
-    maker = Maker(rng, *rng.choice(SIZES), hot=rng.choice([0, 0.3, 0.8]))
-    maker.go(400)
-    return maker.bytes
+    return run_of(rng, 400, *rng.choice(SIZES), hot=rng.choice([0, 0.3, 0.8]))
 
 
 def hot(rng):
     """Few records, many sessions: conflicts and waits."""
-    maker = Maker(rng, rng.choice([1, 2, 3, 6]), rng.choice([2, 3, 8, 16]), hot=0.9)
-    maker.go(400)
-    return maker.bytes
+    return run_of(rng, 400, rng.choice([1, 2, 3, 6]), rng.choice([2, 3, 8, 16]), hot=0.9)
 
 
 def cold(rng):
     """Many records, few conflicts; no stray steps."""
-    maker = Maker(rng, 256, rng.choice([1, 4, 16]), hot=0.05, stray=0.0)
-    maker.go(400)
-    return maker.bytes
+    return run_of(rng, 400, 256, rng.choice([1, 4, 16]), hot=0.05, stray=0.0)
 
 
 def small(rng):
     """One record and one session, and the sizes next to it."""
-    maker = Maker(rng, *rng.choice([(1, 1), (1, 2), (2, 1), (5, 1), (1, 16)]))
-    maker.go(300)
-    return maker.bytes
+    return run_of(rng, 300, *rng.choice([(1, 1), (1, 2), (2, 1), (5, 1), (1, 16)]))
 
 
 def large(rng):
     """N 256, M 16."""
-    maker = Maker(rng, 256, 16, hot=0.4)
-    maker.go(600)
-    return maker.bytes
+    return run_of(rng, 600, 256, 16, hot=0.4)
 
 
 def long(rng):
     """Thousands of steps, few cuts."""
-    maker = Maker(rng, *rng.choice([(4, 2), (9, 3), (32, 8), (256, 16)]), cut=0.0005)
-    maker.go(4000)
-    return maker.bytes
+    return run_of(rng, 4000, *rng.choice([(4, 2), (9, 3), (32, 8), (256, 16)]), cut=0.0005)
 
 
 def stray(rng):
     """Many refusals: sessions and records out of range, wrong phases."""
-    maker = Maker(rng, *rng.choice(SIZES), stray=0.5)
-    maker.go(300)
-    return maker.bytes
+    return run_of(rng, 300, *rng.choice(SIZES), stray=0.5)
 
 
 def restless(rng):
     """A cut every few steps, in any call, also two before one cut."""
-    maker = Maker(rng, *rng.choice([(1, 1), (6, 3), (12, 4), (256, 16)]), cut=0.12)
-    maker.go(400)
-    return maker.bytes
+    return run_of(rng, 400, *rng.choice([(1, 1), (6, 3), (12, 4), (256, 16)]), cut=0.12)
 
 
 def with_others(maker, rng, taken):
