@@ -345,9 +345,21 @@ def damaged(rng, way=None):
     return maker.bytes + bytes([CUT, 3])
 
 
+def noise(rng):
+    """Bytes that follow no plan: a lay mostly, then kinds that are mostly known, low numbers mostly."""
+    out = bytearray([LAY, rng.choice([0, 1, 2, 8, 255]), rng.choice([1, 2, 4, 16])])
+    if rng.random() < 0.2:
+        out = bytearray(rng.randbytes(rng.randrange(60)))
+    for _ in range(rng.randrange(400)):
+        kind = rng.randrange(1, 10) if rng.random() < 0.998 else rng.randrange(256)
+        size = reelwalk.BODIES[kind] if kind < 10 else 1
+        out += bytes([kind] + [rng.choice([0, 1, 2, 3, rng.randrange(256)]) for _ in range(size)])
+    return out
+
+
 KINDS = {f.__name__: f for f in (
     mix, hot, cold, small, large, long, stray, restless, cuts_finish, cuts_settle,
-    cuts_reclaim, cuts_idle, every_answer, sizes_refused, damaged)}
+    cuts_reclaim, cuts_idle, every_answer, sizes_refused, damaged, noise)}
 
 
 def stream(kind, seed):
