@@ -1,28 +1,13 @@
 // A line of numbers. The functions here ask for room: they are for use inside this crate.
-ghost use mathlib.Core.Path.{_≡_};
 ghost use Prim.Native.Nat.{_+_, _≤_};
 ghost use lib.ListN.{length};
 
-fn put_text(out: &mut [u8], at: usize, text: &[u8]) -> usize
-    requires { ⌜ at + length (now text) ≤ length (now out) ⌝ }
-    ensures { λ r. ⌜ r ≡ at + length (now (text .entry)) ⌝ }
-{
-    let mut j: usize = 0;
-    while j < text.len() {
-        out[at + j] = text[j];
-        j += 1;
-    }
-    at + j
-}
-
 // Puts a number and the byte that ends it.
-fn put_number(out: &mut [u8], at: usize, n: u64, end: u8) -> usize
+fn put_ended(out: &mut [u8], at: usize, n: u64, end: u8) -> usize
     requires { ⌜ at + 21 ≤ length (now out) ⌝ }
     ensures { λ r. ⌜ r ≤ at + 21 ⌝ }
 {
-    let mut digits = [0u8; 20];
-    let k = io::decimal(n, &mut digits);
-    let next = put_text(out, at, &digits[..k]);
+    let next = steps::put_number(out, at, n);
     out[next] = end;
     next + 1
 }
@@ -36,7 +21,7 @@ pub fn put_line(out: &mut [u8], at: usize, fields: [u64; 12]) -> usize
     let mut j: usize = 0;
     while j < 12 {
         let end = if j < 11 { 32 } else { 10 };
-        next = put_number(out, next, fields[j], end);
+        next = put_ended(out, next, fields[j], end);
         j += 1;
     }
     next

@@ -5,6 +5,7 @@ use Prim.Native.Nat.{ℕ}
 use Rattle.steps.specs.Bytes.{little}
 use Rattle.steps.specs.Steps.{stepOf, wordsOf, noWords, none, decodeOf}
 use Rattle.steps.specs.Line.{spelled, decimalOf, stepHead}
+use Rattle.steps.specs.Cut.{cutBack}
 use Rattle.steps.specs.Result.{outcomeText, stepLine, badLine, replayedLine, openLine}
 use Rattle.steps.specs.declared.step.Step.{Step}
 use Rattle.steps.specs.declared.step.Step.the-variants.{Lay, Begin, Read, Write, Finish, Publish, Settle, Reclaim, Abandon, Cut}
@@ -112,3 +113,12 @@ steps-read : _≡_ {A = List Decoded}
     ∷ [])
 unfolding decodeOf stepOf wordsOf little
 steps-read = refl
+
+-- a store, a fence and a store on an image of three words, of which 0 to 4 entries are to arrive
+abbrev cutAt : ℕ → List ℕ
+cutAt = cutBack (1 ∷ 9 ∷ 7 ∷ []) (1 ∷ 2 ∷ 3 ∷ []) (1 ∷ 9 ∷ 18446744073709551615 ∷ 0 ∷ 2 ∷ 7 ∷ 4 ∷ []) 3
+
+cuts-tried : _≡_ {A = List (List ℕ)}
+    (cutAt 0 ∷ cutAt 1 ∷ cutAt 2 ∷ cutAt 3 ∷ cutAt 4 ∷ [])
+    ((1 ∷ 2 ∷ 3 ∷ []) ∷ (1 ∷ 9 ∷ 3 ∷ []) ∷ (1 ∷ 9 ∷ 3 ∷ []) ∷ (1 ∷ 9 ∷ 7 ∷ []) ∷ (1 ∷ 9 ∷ 7 ∷ []) ∷ [])
+cuts-tried = refl

@@ -19,3 +19,4 @@ pub use line::put_open;
 pub use line::put_replayed;
 pub use step::Outcome;
 pub use step::Step;
+pub use text::put_number;

@@ -1,5 +1,5 @@
-// Fields put into a lent buffer, each answering where the next goes. Every function here asks for room: they are for the program above,
-// which has shown that there is room before it prints a line.
+// Fields put into a lent buffer, each answering where the next goes. Every function here asks for room: they are for the programs above,
+// which have shown that there is room before they print a line.
 ghost use mathlib.Core.Path.{_≡_};
 ghost use mathlib.Core.List.{_∷_};
 ghost use Prim.Native.Nat.{_+_, _*_, _≤_};
@@ -19,7 +19,8 @@ fn put_text(out: &mut [u8], at: usize, text: &[u8]) -> usize
     at + j
 }
 
-fn put_number(out: &mut [u8], at: usize, n: u64) -> usize
+// A number in decimal digits.
+pub fn put_number(out: &mut [u8], at: usize, n: u64) -> usize
     requires { ⌜ at + 20 ≤ length (now out) ⌝ }
     ensures { λ r. ⌜ Put (decimalOf n) at (now (out .entry)) (now (out .exit)) r ⌝ }
     ensures { λ r. ⌜ r ≤ at + 20 ⌝ }

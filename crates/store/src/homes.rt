@@ -1,4 +1,4 @@
-// Copies that go home.
+// Copies that go home. `put_homes` is for use inside this crate: it asks for room in the trace and copies of records within the image.
 ghost use mathlib.Core.Path.{_≡_};
 ghost use Prim.Native.Nat.{ℕ, _+_, _*_, _≤_, _<_};
 ghost use lib.ListN.{length, getD};

@@ -14,14 +14,14 @@ abbrev μ-loop : tie.MeasureT-loop
 loop-holds : tie.Need-loop-holds Inv-loop μ-loop
 loop-holds c = search needs
 
-mul-put-number : tie.Need-mul-put-number Inv-loop μ-loop
-mul-put-number c = search needs
+mul-put-ended : tie.Need-mul-put-ended Inv-loop μ-loop
+mul-put-ended c = search needs
 
-array-read-put-number : tie.Need-array-read-put-number Inv-loop μ-loop
-array-read-put-number c = search needs
+array-read-put-ended : tie.Need-array-read-put-ended Inv-loop μ-loop
+array-read-put-ended c = search needs
 
-put-number-requires : tie.Need-put-number-requires Inv-loop μ-loop
-put-number-requires c κs = search needs
+put-ended-requires : tie.Need-put-ended-requires Inv-loop μ-loop
+put-ended-requires c κs = search needs
 
 add-j : tie.Need-add-j Inv-loop μ-loop
 add-j c = search needs
@@ -45,9 +45,9 @@ put-line-spec =
     Inv-loop
     μ-loop
     loop-holds
-    mul-put-number
-    array-read-put-number
-    put-number-requires
+    mul-put-ended
+    array-read-put-ended
+    put-ended-requires
     add-j
     loop-less
     loop-again
