@@ -152,22 +152,6 @@ module _ (N M : ℕ) (img : List ℕ) (len : ℕ) (w : Whole N M img) (g : Good 
   pub recover-clean : Clean (2 * M) (view N img) → recoverReply img len .answer ≡ AnswerClean
   recover-clean c = answer-at none c
 
-  -- and only there
-  pub clean-recovered : recoverReply img len .answer ≡ AnswerClean → Clean (2 * M) (view N img)
-  clean-recovered e = go (oldest (view N img) (2 * M)) (best (view N img) (2 * M))
-    where
-      go : (o : Option ℕ) → Best (view N img) (2 * M) o → Clean (2 * M) (view N img)
-      go none c = c
-      go (some p) f = absurd (let a = answer-at (some p) f in let z : _≡_ {A = ℕ} 0 1 = cc (e, a) in omega arith)
-
-  -- otherwise it replays the oldest log
-  pub recover-replays : ¬ Clean (2 * M) (view N img) → Replays N M img len
-  recover-replays n = go (oldest (view N img) (2 * M)) (best (view N img) (2 * M))
-    where
-      go : (o : Option ℕ) → Best (view N img) (2 * M) o → Replays N M img len
-      go none c = absurd (n c)
-      go (some p) f = record { slot = p; chosen = f; entries = entries-at (some p) f; answer = answer-at (some p) f }
-
 -- ---- calls in turn
 
 -- a call of recover as history's attempt, which knows no trace

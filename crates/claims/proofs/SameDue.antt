@@ -31,10 +31,10 @@ use Rattle.history.proofs.Demands.{shown-view}
 use Rattle.claims.specs.Call.{Call, begin, read, write, abandon, finish, publish, settle, reclaim, Event, began, looked, wrote, abandoned, finished, settled, reclaimed}
 use Rattle.claims.specs.Call.{published as made-public}
 use Rattle.claims.specs.History.{viewAt}
-use Rattle.claims.specs.Ledger.{Ledger, note, holds, holderOf, shownTo, shownBy, dueOther, dueOwn, dueRead, dueBegin, dueAbandon, duePublish, dueHeld, dueWritten, dueWrite, dueFinish, dueWait, dueSettle, lesser, smallest, smaller, reclaimable, reclaims, dueReclaim, unread, due}
+use Rattle.claims.specs.Ledger.{Ledger, holds, holderOf, shownTo, shownBy, dueOther, dueOwn, dueRead, dueBegin, dueAbandon, duePublish, dueHeld, dueWritten, dueWrite, dueFinish, dueWait, dueSettle, lesser, smallest, smaller, reclaimable, reclaims, dueReclaim, unread, due}
 use Rattle.claims.proofs.Simulation.{begin-said, abandon-said, publish-said, write-said, finish-said, settle-said, reclaim-said}
 use Rattle.claims.proofs.SameHistory.{op-of, said, view-same}
-use Rattle.claims.proofs.SameLedger.{kept, upd-self}
+use Rattle.claims.proofs.SameLedger.{kept}
 
 -- the call without the length of its trace
 abbrev pub op : Call → Op
@@ -269,12 +269,6 @@ pub due-short : (N M : ℕ) (L : Ledger) (len s : ℕ) → len < 48
     × (due N M L (reclaim len s) ≡ reclaimed s (ReclaimRefused 3))
 unfolding due
 due-short N M L len s l = let short = lt-leb 48 len l in (rw short, rw short, rw short)
-
--- and the ledger stays as it is
-pub short-note : (s : ℕ) (L : Ledger)
-    → (note (finished s (FinishRefused 3)) L ≡ L) × (note (settled s (SettleRefused 3)) L ≡ L) × (note (reclaimed s (ReclaimRefused 3)) L ≡ L)
-unfolding note
-short-note s L = (rw (upd-self s (L .session)), rw (upd-self s (L .session)), refl)
 
 -- ---- from the answer back to the event
 

@@ -15,8 +15,9 @@ use Rattle.desk.specs.declared.state.Desk.{Desk}
 use Rattle.desk.proofs.Copied.{copies-four}
 use Rattle.store.specs.Session.{imageFault, roomFor}
 use Rattle.history.specs.History.{Answer, refused}
-use Rattle.history.specs.Calls.{Reply, refuse, say}
+use Rattle.history.specs.Calls.{Reply, refuse}
 use Rattle.claims.proofs.Abstraction.{abs}
+use Rattle.claims.proofs.Entering.{session-small}
 use Rattle.claims.proofs.Simulation.{Sim, Ready, ready-fault}
 
 module _ (N M : ℕ) (img : List ℕ) (d : Desk) (len s : ℕ) (h : Ready N M img d) where
@@ -41,10 +42,6 @@ pub record Checked (d : Desk) : Type 1 where
   pub refuses : (k : ℕ) → said (refusal k) ≡ refused k
   pub keeps : (k : ℕ) → left (refusal k) ≡ d
 
--- an answer without entries, the desk as it was
-pub says-only : (a : Answer) (d : Desk) → Sim a [] d (say a (abs d))
-says-only a d = record { answers = refl; stored = refl; desk = refl }
-
 module _ (d : Desk) (c : Checked d) where
   -- with this fault it does what the abstract reply does
   abbrev pub Does : ℕ → Reply → Type 0
@@ -68,14 +65,6 @@ module _ (d : Desk) (c : Checked d) where
 
 -- a session below M
 module _ (N M : ℕ) (img : List ℕ) (d : Desk) (s : ℕ) (h : Ready N M img d) (l : s < M) where
-  -- is one of the sixteen
-  small : s < 16
-  small = omega (arith, h .coherent .m-high, h .m-same)
-
-  -- has an entry
-  pub inside : s < length (d .sessions)
-  inside = omega (arith, small, h .sessions-long)
-
-  -- with a place for each of its copies
+  -- has a place for each of its copies
   pub fits : sessionAt d s .count ≤ length (sessionAt d s .copies)
-  fits = omega (arith, copies-four d (h .coherent) s small, h .copies-long s small)
+  fits = omega (arith, copies-four d (h .coherent) s (session-small N M img d h s l), h .copies-long s (session-small N M img d h s l))

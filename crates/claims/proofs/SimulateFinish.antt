@@ -24,7 +24,8 @@ use Rattle.history.specs.History.{finish}
 use Rattle.history.specs.Calls.{reply, finishes, seals-copies, finish-entries, place, limit as clock-limit}
 use Rattle.claims.proofs.Abstraction.{txn-of, copiesOf, abs, abs-put, length-front}
 use Rattle.claims.proofs.Simulation.{finish-said, Sim, Ready}
-use Rattle.claims.proofs.SimulateChecks.{Checked, Does, does-refuse, past-four, short-fault, inside, fits}
+use Rattle.claims.proofs.Entering.{session-there}
+use Rattle.claims.proofs.SimulateChecks.{Checked, Does, does-refuse, past-four, short-fault, fits}
 use Rattle.claims.proofs.CopyEntries.{log-copies}
 
 -- finish past its checks, and where a check refuses
@@ -60,7 +61,7 @@ module _ (N M : ℕ) (img : List ℕ) (d : Desk) (s : ℕ) (h : Ready N M img d)
   unfolding answered clock-limit
   seals [] z =
       rw (eq-eqb (e .count) 0 (sym count-is ∙ ap length z))
-      (record { answers = refl; stored = refl; desk = abs-put d (d .clock) (d .n) (d .m) s idleSession (d .holders) (inside N M img d s h l) })
+      (record { answers = refl; stored = refl; desk = abs-put d (d .clock) (d .n) (d .m) s idleSession (d .holders) (session-there N M img d h s l) })
   seals (c ∷ cs) z = go (ne-eqb (e .count) 0 (λ n. omega (arith, count-is, ap length z))) (decLt (d .clock) limit)
     where
       go : eqb (e .count) 0 ≡ false → Dec (d .clock < limit)
@@ -70,7 +71,7 @@ module _ (N M : ℕ) (img : List ℕ) (d : Desk) (s : ℕ) (h : Ready N M img d)
           (record {
             answers = refl;
             stored = rw z at seal-entries;
-            desk = rw z at (abs-put d (d .clock) (d .n) (d .m) s (withPhase e (Sealed (d .clock))) (d .holders) (inside N M img d s h l));
+            desk = rw z at (abs-put d (d .clock) (d .n) (d .m) s (withPhase e (Sealed (d .clock))) (d .holders) (session-there N M img d h s l));
           })
       go some (no n) = rw (some, le-ltb (d .clock) limit (omega arith), le-leb clock-limit (d .clock) (omega arith)) (does-refuse d (finish-call d s) 9)
 

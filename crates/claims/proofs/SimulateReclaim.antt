@@ -33,7 +33,8 @@ use Rattle.history.specs.Calls.{reply, place, free, choice, candidate, clears, 
 use Rattle.history.proofs.Choice.{First, Best, best}
 use Rattle.claims.proofs.Abstraction.{txn-of, copiesOf, pack, abs}
 use Rattle.claims.proofs.Simulation.{reclaim-said, Sim, Ready}
-use Rattle.claims.proofs.SimulateChecks.{Checked, Does, says-only, past-four, short-fault}
+use Rattle.claims.proofs.Entering.{told as says-only}
+use Rattle.claims.proofs.SimulateChecks.{Checked, Does, past-four, short-fault}
 
 -- ---- the slot to clear
 

@@ -27,7 +27,8 @@ use Rattle.history.specs.Calls.{reply, settles, waits}
 use Rattle.history.proofs.Copies.{Lowest, lowest?}
 use Rattle.claims.proofs.Abstraction.{txn-of, copiesOf, pack, abs, abs-put}
 use Rattle.claims.proofs.Simulation.{settle-said, Sim, Ready}
-use Rattle.claims.proofs.SimulateChecks.{Checked, Does, says-only, does-refuse, past-four, short-fault, inside, fits}
+use Rattle.claims.proofs.Entering.{session-there, told as says-only}
+use Rattle.claims.proofs.SimulateChecks.{Checked, Does, does-refuse, past-four, short-fault, fits}
 use Rattle.claims.proofs.CopyEntries.{homes-copies}
 
 -- ---- the session that settle waits for
@@ -118,7 +119,7 @@ module _ (N M : ℕ) (img : List ℕ) (d : Desk) (s : ℕ) (h : Ready N M img d)
       (record {
         answers = refl;
         stored = ap (λ ws. stores ws ++ (fence ∷ [])) (homes-copies e (fits N M img d s h l));
-        desk = abs-put d (d .clock) (d .n) (d .m) s idleSession (unmarked (d .holders) (e .copies) (e .count)) (inside N M img d s h l);
+        desk = abs-put d (d .clock) (d .n) (d .m) s idleSession (unmarked (d .holders) (e .copies) (e .count)) (session-there N M img d h s l);
       })
   settled (some t) z = rw (z .0, lt-ltb t 16 (z .1)) (says-only (wait t) d)
 

@@ -6,7 +6,7 @@ use mathlib.Core.List.{List, [], _∷_}
 use native.Mathlib.Decide.{ℕ-discrete}
 use native.Mathlib.Omega.{arith}
 use lib.ListN.{length, getD}
-use Rattle.history.specs.Log.{In, State, Occupied, Puts, Final}
+use Rattle.history.specs.Log.{In, State, Puts, Final}
 use Rattle.history.specs.Layout.{Home}
 use Rattle.history.specs.Batch.{laid}
 
@@ -52,16 +52,6 @@ module _ (K : ℕ) (Home : ℕ → Type 0) (s s′ : State) (p : ℕ) (b : Besid
       at : (q v : ℕ) → Puts K s′ q i v → Dec (q ≡ p) → ⊥
       at q v h (yes e) = none v (rw e at h)
       at q v h (no m) = r .unwritten q v (beside-back q i v m h)
-
-  -- slot p writes w at i, and is newer than every other
-  pub beside-new : ((q : ℕ) → Occupied K s q → s .number q < s′ .number p) → (i w : ℕ) → Puts K s′ p i w → Final K s′ i w
-  beside-new newer i w h =
-      inl
-      (record {
-        slot = p;
-        puts = h;
-        newest = λ q v n g. rw (b .number-same q (g .occupied .0) n) (newer q (beside-back q i v n g .occupied));
-      })
 
 -- ---- the words of a log, laid in a slot
 

@@ -12,7 +12,7 @@ use lib.Dec.{T, leb}
 use borrow.Author.Tests.{leb-true}
 use Rattle.history.specs.Layout.{view}
 use Rattle.history.specs.Desk.{Copy, find, spot, Session, idle, active, sealed, published, copies, Desk, found, holder, lowest}
-use Rattle.history.specs.History.{Call, read, Answer, home, History, seen-at}
+use Rattle.history.specs.History.{Call, read, home, History, seen-at}
 use Rattle.history.specs.Calls.{home-words, shown, held-by, reads-other, reads-own, reads}
 use Rattle.history.specs.Run.{World, answer, after}
 use Rattle.history.specs.Right.{Right}
@@ -71,9 +71,6 @@ module _ (N M : ℕ) (img : List ℕ) (d : Desk) (h : History) (H : Holds N M im
   -- nobody shows it: the view is the home record
   home-view : NoOne M (shown b) d r → (j : ℕ) → j < 4 → getD (home-words img r) j 0 ≡ getD (seen-at h b r) j 0
   home-view nn j lj = sym (home-word img r j lj) ∙ H .inv .views r b lr (inr (s, l, rw is refl)) nn j lj
-
-  abbrev Sees : Answer → Type 0
-  Sees a = Right h s r a
 
   module _ (fr : Fresh r cs) where
     none-own : find r (h .draft s) ≡ none

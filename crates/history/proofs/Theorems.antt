@@ -83,14 +83,6 @@ module _ (N M : ℕ) (img : List ℕ) (g : Good N M img) where
       go (some p) f = same p f _ (run-words p f a .word j (nb p))
 
   -- T2: a whole step empties one slot, where one is occupied
-  pub whole-fewer : (p : ℕ) → Occupied (2 * M) (view N img) p → suc (busy (view N (attempt N M whole img) .number) (2 * M)) ≡ busy (view N img .number) (2 * M)
-  unfolding attempt recover
-  whole-fewer p o = go (oldest (view N img) (2 * M)) (best (view N img) (2 * M))
-    where
-      go : (b : Option ℕ) → Best (view N img) (2 * M) b → suc (busy (view N (run whole (from N img b) img) .number) (2 * M)) ≡ busy (view N img .number) (2 * M)
-      go none c = absurd (o .1 (c p (o .0)))
-      go (some q) f = one-fewer q f
-
   whole-down : (n : ℕ) → busy (view N img .number) (2 * M) ≤ suc n → busy (view N (attempt N M whole img) .number) (2 * M) ≤ n
   unfolding attempt recover
   whole-down n h = go (oldest (view N img) (2 * M)) (best (view N img) (2 * M))

@@ -81,9 +81,6 @@ crash-feed N d (reclaim s) a img h = h
 unfoldable pub crashed-image : ℕ → ℕ → World → Call → ℕ → (ℕ → Bool) → List ℕ
 crashed-image N M w c k sel = cut k sel (answer N M w c .entries) (w .image)
 
-unfoldable pub crashed-history : ℕ → ℕ → World → Call → ℕ → (ℕ → Bool) → History
-crashed-history N M w c k sel = crash-feed N (w .desk) c (answer N M w c .answer) (crashed-image N M w c k sel) (w .history)
-
 -- the answers along a list of calls
 unfoldable pub answers : ℕ → ℕ → List Call → World → List Answer
 answers N M [] w = []
