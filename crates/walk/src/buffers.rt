@@ -2,6 +2,7 @@
 ghost use mathlib.Core.Path.{_≡_};
 ghost use Prim.Native.Nat.{_+_, _≤_};
 ghost use lib.ListN.{length};
+ghost use Rattle.walk.specs.Turn.{writtenOf};
 use crate::state::State;
 
 // Takes more input; it has ended where nothing came.
@@ -22,6 +23,7 @@ pub fn fill(input: &mut [u8], mut s: State) -> State
 pub fn flush(output: &[u8], mut s: State) -> State
     requires { ⌜ s .put ≤ length (now output) ⌝ }
     ensures { λ r. ⌜ (r .at ≡ s .at) × (r .have ≡ s .have) × (r .put ≡ 0) × (r .number ≡ s .number) × (r .size ≡ s .size) ⌝ }
+    ensures { λ r. ⌜ r ≡ writtenOf s (r .put) (r .stopped) ⌝ }
 {
     let put = s.put;
     let done = io::write_all(1, &output[..put]);
@@ -34,6 +36,7 @@ pub fn flush(output: &[u8], mut s: State) -> State
 pub fn roomy(output: &[u8], s: State) -> State
     requires { ⌜ (s .put ≤ length (now output)) × (256 ≤ length (now output)) ⌝ }
     ensures { λ r. ⌜ (r .at ≡ s .at) × (r .have ≡ s .have) × (r .put + 256 ≤ length (now (output .entry))) × (r .number ≡ s .number) × (r .size ≡ s .size) ⌝ }
+    ensures { λ r. ⌜ r ≡ writtenOf s (r .put) (r .stopped) ⌝ }
 {
     if output.len() - s.put < 256 {
         flush(output, s)

@@ -2,6 +2,7 @@
 ghost use mathlib.Core.Path.{_≡_};
 ghost use Prim.Native.Nat.{_+_, _≤_, _<_, _^_};
 ghost use Rattle.walk.specs.Bounds.{Follows};
+ghost use Rattle.walk.specs.Turn.{startOf, countedOf, stoppedOf, openedOf};
 
 // The input held is input[at..have], the lines not yet written are output[..put], the image is the first `size` words (0: not laid yet).
 // `cutting`: of the next step that stores, `cut` entries arrive. `lost`: the desk is lost, and recovery is to come. `closed`: the image is to be
@@ -22,6 +23,7 @@ pub struct State {
 
 pub fn start(have: usize, ended: bool) -> State
     ensures { λ r. ⌜ (r .at ≡ 0) × (r .have ≡ have) × (r .put ≡ 0) × (r .size ≡ 0) × (r .number ≡ 0) ⌝ }
+    ensures { λ r. ⌜ r ≡ startOf have ended ⌝ }
 {
     State {
         at: 0,
@@ -42,6 +44,7 @@ pub fn start(have: usize, ended: bool) -> State
 pub fn counted(mut s: State, bytes: usize) -> State
     requires { ⌜ (s .at + bytes ≤ s .have) × (s .number + 1 < 2 ^ 64) ⌝ }
     ensures { λ r. ⌜ (r .at ≡ s .at + bytes) × (r .have ≡ s .have) × (r .put ≡ s .put) × (r .size ≡ s .size) × (r .number ≡ s .number + 1) ⌝ }
+    ensures { λ r. ⌜ r ≡ countedOf s bytes ⌝ }
 {
     s.at = s.at + bytes;
     s.number = s.number + 1;
@@ -50,6 +53,7 @@ pub fn counted(mut s: State, bytes: usize) -> State
 
 pub fn stopped(mut s: State) -> State
     ensures { λ r. ⌜ Follows s r (s .put) (s .size) ⌝ }
+    ensures { λ r. ⌜ r ≡ stoppedOf s ⌝ }
 {
     s.stopped = true;
     s
@@ -57,6 +61,7 @@ pub fn stopped(mut s: State) -> State
 
 pub fn opened(mut s: State) -> State
     ensures { λ r. ⌜ Follows s r (s .put) (s .size) ⌝ }
+    ensures { λ r. ⌜ r ≡ openedOf s ⌝ }
 {
     s.closed = false;
     s

@@ -2,6 +2,7 @@
 ghost use mathlib.Core.Path.{_≡_};
 ghost use Prim.Native.Nat.{_+_, _≤_, _<_, _^_};
 ghost use lib.ListN.{length};
+ghost use Rattle.walk.specs.Turn.{stepTurn, foundTurn, asideOf, takenOf, turnOf, afterWrite};
 use crate::buffers::roomy;
 use crate::state::State;
 use crate::state::counted;
@@ -27,7 +28,9 @@ pub struct Taken {
 }
 
 // The first step has to be 0, and no later one may be.
-fn step_turn(step: Step, laid: bool) -> Turn {
+fn step_turn(step: Step, laid: bool) -> Turn
+    ensures { λ r. ⌜ r ≡ stepTurn step laid ⌝ }
+{
     match step {
         Step::Lay(n, m) => { if laid { Turn::Bad } else { Turn::Lay(n, m) } }
         _ => { if laid { Turn::Call(step) } else { Turn::Bad } }
@@ -35,7 +38,9 @@ fn step_turn(step: Step, laid: bool) -> Turn {
 }
 
 // An unknown kind and a short body are bad; the input may end before any step.
-fn found_turn(found: Found, laid: bool) -> Turn {
+fn found_turn(found: Found, laid: bool) -> Turn
+    ensures { λ r. ⌜ r ≡ foundTurn found laid ⌝ }
+{
     match found {
         Found::Whole(step) => step_turn(step, laid),
         Found::Bad => Turn::Bad,
@@ -47,6 +52,7 @@ fn found_turn(found: Found, laid: bool) -> Turn {
 // A turn that takes no step.
 fn aside(turn: Turn, s: State) -> Taken
     ensures { λ r. ⌜ (r .state .at ≡ s .at) × (r .state .have ≡ s .have) × (r .state .put ≡ s .put) × (r .state .size ≡ s .size) × (r .state .number ≡ s .number) ⌝ }
+    ensures { λ r. ⌜ r ≡ asideOf turn s ⌝ }
 {
     Taken {
         turn: turn,
@@ -59,6 +65,7 @@ fn aside(turn: Turn, s: State) -> Taken
 fn take_step(input: &[u8], s: State) -> Taken
     requires { ⌜ (s .at ≤ s .have) × (s .have ≤ length (now input)) × (s .number + 1 < 2 ^ 64) ⌝ }
     ensures { λ r. ⌜ (r .state .at ≤ r .state .have) × (r .state .have ≡ s .have) × (r .state .put ≡ s .put) × (r .state .size ≡ s .size) × (r .state .number ≡ s .number + 1) ⌝ }
+    ensures { λ r. ⌜ r ≡ takenOf (now (input .entry)) s ⌝ }
 {
     let at = s.at;
     let have = s.have;
@@ -78,6 +85,7 @@ fn take_step(input: &[u8], s: State) -> Taken
 fn turn_of(input: &[u8], s: State) -> Taken
     requires { ⌜ (s .at ≤ s .have) × (s .have ≤ length (now input)) × (s .number + 1 < 2 ^ 64) ⌝ }
     ensures { λ r. ⌜ (r .state .at ≤ r .state .have) × (r .state .have ≡ s .have) × (r .state .put ≡ s .put) × (r .state .size ≡ s .size) × (r .state .number ≤ s .number + 1) ⌝ }
+    ensures { λ r. ⌜ r ≡ turnOf (now (input .entry)) s ⌝ }
 {
     if s.closed {
         return aside(Turn::Open, s);
@@ -96,6 +104,7 @@ fn turn_of(input: &[u8], s: State) -> Taken
 pub fn next_turn(input: &[u8], output: &[u8], s: State) -> Taken
     requires { ⌜ (s .at ≤ s .have) × (s .have ≤ length (now input)) × (s .put ≤ length (now output)) × (256 ≤ length (now output)) × (s .number + 1 < 2 ^ 64) ⌝ }
     ensures { λ r. ⌜ (r .state .at ≤ r .state .have) × (r .state .have ≡ s .have) × (r .state .put + 256 ≤ length (now (output .entry))) × (r .state .size ≡ s .size) × (r .state .number ≤ s .number + 1) ⌝ }
+    ensures { λ r. ⌜ r ≡ afterWrite (turnOf (now (input .entry)) s) (r .state .put) (r .state .stopped) ⌝ }
 {
     let t = roomy(output, s);
     turn_of(input, t)

@@ -74,8 +74,8 @@ loop-less c = search needs
 
 loop-again : tie.Need-loop-again Inv-loop μ-loop
 loop-again c =
-    let t = (c .before .before .before .before .before .before .before .before) .next-turn .ensures
-    in let f = c .opened .ensures
+    let t = (c .before .before .before .before .before .before .before .before) .next-turn .ensures .0
+    in let f = c .opened .ensures .0
     in (turned ((c .before .before .before .before .before .before .before .before .before .before .before .before .before) .loop .inv .0) (t .0) (t .1) (t .3) f (search needs), search needs, search needs, search needs, search needs, search needs, omega (arith, f .numbered, t .4, (c .before .before .before .before .before .before .before .before .before .before .before .before) .loop-test .taken, (c .before .before .before .before .before .before .before .before .before .before .before .before .before) .loop .inv .6))
 
 enum-known-turn : tie.Need-enum-known-turn Inv-loop μ-loop
@@ -98,7 +98,7 @@ loop-less-2 c = omega (arith, (c .before .before .before .before .before .before
 
 loop-again-2 : tie.Need-loop-again-2 Inv-loop μ-loop
 loop-again-2 c =
-    let t = (c .before .before .before .before .before .before .before .before .before .before .before .before .before .before .before .before .before .before .before .before .before) .next-turn .ensures
+    let t = (c .before .before .before .before .before .before .before .before .before .before .before .before .before .before .before .before .before .before .before .before .before) .next-turn .ensures .0
     in let f = (c .before .before) .tell .ensures
     in let inv = (c .before .before .before .before .before .before .before .before .before .before .before .before .before .before .before .before .before .before .before .before .before .before .before .before .before .before) .loop .inv
     in (
@@ -119,7 +119,7 @@ loop-less-3 c = search needs
 
 loop-again-3 : tie.Need-loop-again-3 Inv-loop μ-loop
 loop-again-3 c =
-    let t = (c .before .before .before .before .before .before .before .before .before .before .before .before .before .before .before .before) .next-turn .ensures
+    let t = (c .before .before .before .before .before .before .before .before .before .before .before .before .before .before .before .before) .next-turn .ensures .0
     in let r = (c .before .before .before .before .before .before .before .before) .other-turn .ensures
     in (renamed (r .0) (search needs) (search needs) (search needs), search needs, search needs, search needs, search needs, search needs, omega (arith, r .1, t .4, (c .before .before .before .before .before .before .before .before .before .before .before .before .before .before .before .before .before .before .before .before) .loop-test .taken, (c .before .before .before .before .before .before .before .before .before .before .before .before .before .before .before .before .before .before .before .before .before) .loop .inv .6))
 

@@ -1,0 +1,50 @@
+use mathlib.Core.Path.{_∙_}
+use Rattle.walk.specs.Turn.{turnOf}
+use borrow.Author.Needs.{needs}
+use Rattle.walk.proofs.turn.turn_of.Statement.{statement}
+use Rattle.walk.proofs.turn.turn_of.Tie as tie
+
+aside-requires : tie.Need-aside-requires
+aside-requires c κs = search needs
+
+returns : tie.Need-returns
+unfolding turnOf
+returns c = (search needs, c .aside .ensures .1 ∙ simp ((c .before) .if1 .taken))
+
+aside-requires-2 : tie.Need-aside-requires-2
+aside-requires-2 c κs = search needs
+
+returns-2 : tie.Need-returns-2
+unfolding turnOf
+returns-2 c = (search needs, c .aside2 .ensures .1 ∙ simp ((c .before .before) .if1 .left, (c .before) .if2 .taken))
+
+sub-if3 : tie.Need-sub-if3
+sub-if3 c = search needs
+
+aside-requires-3 : tie.Need-aside-requires-3
+aside-requires-3 c κs = search needs
+
+returns-3 : tie.Need-returns-3
+unfolding turnOf
+returns-3 c = (search needs, c .aside3 .ensures .1 ∙ simp ((c .before .before .before .before) .if1 .left, (c .before .before .before) .if2 .left, (c .before) .if3 .taken))
+
+take-step-requires : tie.Need-take-step-requires
+take-step-requires c κs = search needs
+
+returns-4 : tie.Need-returns-4
+unfolding turnOf
+returns-4 c = (search needs, c .take-step .ensures .1 ∙ simp ((c .before .before .before .before) .if1 .left, (c .before .before .before) .if2 .left, (c .before) .if3 .left))
+
+pub turn-of-spec : {M : Type 1} → statement M
+turn-of-spec =
+    tie.close
+    (tie.spec
+    aside-requires
+    returns
+    aside-requires-2
+    returns-2
+    sub-if3
+    aside-requires-3
+    returns-3
+    take-step-requires
+    returns-4)

@@ -1,0 +1,158 @@
+-- What the next turn of a walk does (document 01, "The program"). Assumes nothing.
+use Prim.Native.Nat.{ℕ, _+_, _-_}
+use mathlib.Core.List.{List}
+use mathlib.Core.Bool.{Bool, true, false, not, _&&_, cond}
+use lib.ListN.{take, drop}
+use lib.Dec.{ltb, eqb}
+use Rattle.steps.specs.Steps.{noWords, decodeOf}
+use Rattle.steps.specs.declared.step.Step.{Step}
+use Rattle.steps.specs.declared.step.Step.the-variants.{Lay, Begin, Read, Write, Finish, Publish, Settle, Reclaim, Abandon, Cut}
+use Rattle.steps.specs.declared.decoding.Found.{Found}
+use Rattle.steps.specs.declared.decoding.Found.the-variants.{Whole, Bad as Unknown, Short, End as Nothing}
+use Rattle.steps.specs.declared.decoding.Decoded.{Decoded}
+use Rattle.walk.specs.declared.state.State.{State}
+use Rattle.walk.specs.declared.turn.Turn.{Turn}
+use Rattle.walk.specs.declared.turn.Turn.the-variants.{Open, Recover, Fill, Call, Lay as LayOut, Bad, End}
+use Rattle.walk.specs.declared.turn.Taken.{Taken}
+
+-- a walk starts before the first step, with no image
+abbrev pub startOf : ℕ → Bool → State
+startOf have ended =
+    record {
+      at = 0;
+      have = have;
+      put = 0;
+      size = 0;
+      number = 0;
+      cut = 0;
+      cutting = false;
+      ended = ended;
+      lost = false;
+      closed = false;
+      stopped = false;
+    }
+
+-- behind a step of this many bytes; the lines count the steps from 1
+abbrev pub countedOf : State → ℕ → State
+countedOf s bytes =
+    record {
+      at = s .at + bytes;
+      have = s .have;
+      put = s .put;
+      size = s .size;
+      number = s .number + 1;
+      cut = s .cut;
+      cutting = s .cutting;
+      ended = s .ended;
+      lost = s .lost;
+      closed = s .closed;
+      stopped = s .stopped;
+    }
+
+-- the walk stops
+abbrev pub stoppedOf : State → State
+stoppedOf s =
+    record {
+      at = s .at;
+      have = s .have;
+      put = s .put;
+      size = s .size;
+      number = s .number;
+      cut = s .cut;
+      cutting = s .cutting;
+      ended = s .ended;
+      lost = s .lost;
+      closed = s .closed;
+      stopped = true;
+    }
+
+-- the image is opened
+abbrev pub openedOf : State → State
+openedOf s =
+    record {
+      at = s .at;
+      have = s .have;
+      put = s .put;
+      size = s .size;
+      number = s .number;
+      cut = s .cut;
+      cutting = s .cutting;
+      ended = s .ended;
+      lost = s .lost;
+      closed = false;
+      stopped = s .stopped;
+    }
+
+-- lines may have been written: only `put` and `stopped` may be other than before
+abbrev pub writtenOf : State → ℕ → Bool → State
+writtenOf s put stopped =
+    record {
+      at = s .at;
+      have = s .have;
+      put = put;
+      size = s .size;
+      number = s .number;
+      cut = s .cut;
+      cutting = s .cutting;
+      ended = s .ended;
+      lost = s .lost;
+      closed = s .closed;
+      stopped = stopped;
+    }
+
+-- a step other than 0 is bad where no image is laid: the first step has to be 0
+abbrev pub callTurn : Step → Bool → Turn
+callTurn step laid = cond laid (Call step) Bad
+
+-- and a later step 0 is bad
+abbrev pub stepTurn : Step → Bool → Turn
+stepTurn (Lay n m) laid = cond laid Bad (LayOut n m)
+stepTurn (Begin s) laid = callTurn (Begin s) laid
+stepTurn (Read s r) laid = callTurn (Read s r) laid
+stepTurn (Write s r) laid = callTurn (Write s r) laid
+stepTurn (Finish s) laid = callTurn (Finish s) laid
+stepTurn (Publish s) laid = callTurn (Publish s) laid
+stepTurn (Settle s) laid = callTurn (Settle s) laid
+stepTurn (Reclaim s) laid = callTurn (Reclaim s) laid
+stepTurn (Abandon s) laid = callTurn (Abandon s) laid
+stepTurn (Cut k) laid = callTurn (Cut k) laid
+
+-- an unknown kind and a short body are bad; the input may end before any step, the first too
+abbrev pub foundTurn : Found → Bool → Turn
+foundTurn (Whole step) laid = stepTurn step laid
+foundTurn Unknown laid = Bad
+foundTurn Short laid = Bad
+foundTurn Nothing laid = End
+
+-- a turn that takes no step
+abbrev pub asideOf : Turn → State → Taken
+asideOf turn s = record { turn = turn; words = noWords; state = s }
+
+-- the turn of what was decoded, the words of a write, and the state behind it; an image of size 0 is not laid yet
+abbrev pub decodedTurn : Decoded → State → Taken
+decodedTurn d s =
+    record {
+      turn = foundTurn (d .found) (not (eqb (s .size) 0));
+      words = d .words;
+      state = countedOf s (d .size);
+    }
+
+-- the next step starts the input held, input[at..have]
+unfoldable pub takenOf : List ℕ → State → Taken
+takenOf input s = decodedTurn (decodeOf (take (s .have - s .at) (drop (s .at) input))) s
+
+-- more input may come, and fewer bytes are held than the longest step has: a write's kind and its 34 bytes of body
+abbrev pub hungryB : State → Bool
+hungryB s = not (s .ended) && ltb (s .have - s .at) 35
+
+-- an image that was laid or recovered is opened first, a lost desk is recovered, and then the next step is read and taken
+unfoldable pub turnOf : List ℕ → State → Taken
+turnOf input s =
+    cond (s .closed) (asideOf Open s)
+    (cond (s .lost) (asideOf Recover s)
+    (cond (hungryB s) (asideOf Fill s)
+    (takenOf input s)))
+
+-- a turn before which lines may have been written
+abbrev pub afterWrite : Taken → ℕ → Bool → Taken
+afterWrite t put stopped = record { turn = t .turn; words = t .words; state = writtenOf (t .state) put stopped }
