@@ -1,4 +1,5 @@
-// A walk through a step stream. `run` is public for the programs above: it asks for an output buffer of 256 bytes or more.
+// A walk through a step stream. `run` is public for the programs above: it asks for an output buffer of 256 bytes or more, and for a `before` at
+// least as long as the image.
 ghost use mathlib.Core.Path.{_≡_};
 ghost use Prim.Native.Nat.{_+_, _<_, _≤_};
 ghost use lib.ListN.{length};
@@ -29,7 +30,7 @@ pub fn run(
     have: usize,
     ended: bool,
 )
-    requires { ⌜ (256 ≤ length (now output)) × (have ≤ length (now input)) ⌝ }
+    requires { ⌜ (256 ≤ length (now output)) × (have ≤ length (now input)) × (length (now image) ≤ length (now before)) ⌝ }
 {
     let mut s = start(have, ended);
     let none = store::open(image);

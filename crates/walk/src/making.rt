@@ -1,8 +1,16 @@
 // One step on the store, and the lines that it prints. The functions here are for use inside this crate.
 ghost use mathlib.Core.Path.{_≡_};
 ghost use Prim.Native.Nat.{_+_, _≤_};
-ghost use lib.ListN.{length};
+ghost use lib.ListN.{length, take};
+ghost use Rattle.layout.specs.Entries.{made};
+ghost use Rattle.store.specs.Recover.{recoverReply, recoverEntries};
+ghost use Rattle.steps.specs.Apply.{appliedOf, appliedEntries};
+ghost use Rattle.steps.specs.Result.{stepLine, badLine, replayedLine, openLine};
+ghost use Rattle.steps.specs.Steps.{noWords};
+ghost use Rattle.steps.specs.declared.step.Step.the-variants.{Lay};
 ghost use Rattle.walk.specs.Bounds.{Within, Ready, Follows};
+ghost use Rattle.walk.specs.Make.{imageSize, storesB, isCutB, arrivesOf, shownOf, notedOf, toldOf, badOf, replayedOf, recoveredOf};
+ghost use Rattle.walk.specs.Make.{resumedLine, resumedOf, laying, layOutcome, laidOf, memoryOf, Puts, OtherTurn};
 use crate::buffers::fill;
 use crate::state::State;
 use crate::state::stopped;
@@ -17,6 +25,7 @@ use store::RecoverAnswer;
 // The words of an image for n records and m sessions; 0 where the memory has fewer.
 fn image_size(memory: usize, n: u64, m: u64) -> usize
     ensures { λ r. ⌜ r ≤ memory ⌝ }
+    ensures { λ r. ⌜ r ≡ imageSize memory n m ⌝ }
 {
     if 256 < n {
         return 0;
@@ -32,6 +41,7 @@ fn image_size(memory: usize, n: u64, m: u64) -> usize
 fn bad(output: &mut [u8], mut s: State) -> State
     requires { ⌜ s .put + 256 ≤ length (now output) ⌝ }
     ensures { λ r. ⌜ Follows s r (length (now (output .entry))) (s .size) ⌝ }
+    ensures { λ r. ⌜ Puts (badLine (s .number)) s (badOf s) (now (output .entry)) (now (output .exit)) r ⌝ }
 {
     let put = s.put;
     let number = s.number;
@@ -44,6 +54,8 @@ fn bad(output: &mut [u8], mut s: State) -> State
 fn lay(image: &mut [u64], output: &mut [u8], mut s: State, n: u64, m: u64) -> State
     requires { ⌜ Ready s (length (now output)) (length (now image)) ⌝ }
     ensures { λ r. ⌜ Follows s r (length (now (output .entry))) (length (now (image .entry))) ⌝ }
+    ensures { λ r. ⌜ Puts (stepLine (s .number) (Lay n m) (layOutcome (laying (now (image .entry)) n m)) noWords) s (laidOf s (imageSize (length (now (image .entry))) n m) (laying (now (image .entry)) n m)) (now (output .entry)) (now (output .exit)) r ⌝ }
+    ensures { λ r. ⌜ now (image .exit) ≡ memoryOf (now (image .entry)) n m ⌝ }
 {
     let size = image_size(image.len(), n, m);
     let put = s.put;
@@ -66,17 +78,27 @@ fn lay(image: &mut [u64], output: &mut [u8], mut s: State, n: u64, m: u64) -> St
 }
 
 // The steps that a cut waits for.
-fn stores(step: Step) -> bool {
+fn stores(step: Step) -> bool
+    ensures { λ r. ⌜ r ≡ storesB step ⌝ }
+{
     match step {
+        Step::Lay(_, _) => false,
+        Step::Begin(_) => false,
+        Step::Read(_, _) => false,
+        Step::Write(_, _) => false,
         Step::Finish(_) => true,
+        Step::Publish(_) => false,
         Step::Settle(_) => true,
         Step::Reclaim(_) => true,
-        _ => false,
+        Step::Abandon(_) => false,
+        Step::Cut(_) => false,
     }
 }
 
 // Whether the step is cut.
-fn is_cut(s: State, step: Step) -> bool {
+fn is_cut(s: State, step: Step) -> bool
+    ensures { λ r. ⌜ r ≡ isCutB s step ⌝ }
+{
     let cutting = s.cutting;
     cutting & stores(step)
 }
@@ -89,7 +111,11 @@ fn make_cut(
     desk: Desk,
     step: Step,
     k: u64,
-) -> Applied {
+) -> Applied
+    requires { ⌜ length (now image) ≤ length (now before) ⌝ }
+    ensures reply { λ r. ⌜ r ≡ appliedOf (now (image .entry)) desk (length (now (trace .entry))) step noWords ⌝ }
+    ensures image { λ r. ⌜ now (image .exit) ≡ made (take k (appliedEntries (now (image .entry)) desk (length (now (trace .entry))) step)) (now (image .entry)) ⌝ }
+{
     steps::keep(image, before);
     let a = steps::apply(image, desk, trace, step, [0; 4]);
     steps::cut_back(image, before, trace, a.entries, k);
@@ -105,7 +131,11 @@ pub fn make(
     step: Step,
     words: [u64; 4],
     s: State,
-) -> Applied {
+) -> Applied
+    requires { ⌜ length (now image) ≤ length (now before) ⌝ }
+    ensures reply { λ r. ⌜ r ≡ appliedOf (now (image .entry)) desk (length (now (trace .entry))) step words ⌝ }
+    ensures image { λ r. ⌜ now (image .exit) ≡ made (arrivesOf s step (appliedEntries (now (image .entry)) desk (length (now (trace .entry))) step)) (now (image .entry)) ⌝ }
+{
     if is_cut(s, step) {
         return make_cut(image, before, trace, desk, step, s.cut);
     }
@@ -113,7 +143,9 @@ pub fn make(
 }
 
 // The result of a step: "cut" where it is cut and has entries.
-fn result(outcome: Outcome, cut: bool, entries: u64) -> Outcome {
+fn result(outcome: Outcome, cut: bool, entries: u64) -> Outcome
+    ensures { λ r. ⌜ r ≡ shownOf outcome cut entries ⌝ }
+{
     if cut & (entries != 0) {
         Outcome::Cut
     } else {
@@ -124,6 +156,7 @@ fn result(outcome: Outcome, cut: bool, entries: u64) -> Outcome {
 // Notes the cut of a step 9; a second one replaces it.
 fn noted(mut s: State, step: Step) -> State
     ensures { λ r. ⌜ Follows s r (s .put) (s .size) ⌝ }
+    ensures { λ r. ⌜ r ≡ notedOf s step ⌝ }
 {
     match step {
         Step::Cut(k) => {
@@ -131,7 +164,15 @@ fn noted(mut s: State, step: Step) -> State
             s.cutting = true;
             s
         }
-        _ => s,
+        Step::Lay(_, _) => s,
+        Step::Begin(_) => s,
+        Step::Read(_, _) => s,
+        Step::Write(_, _) => s,
+        Step::Finish(_) => s,
+        Step::Publish(_) => s,
+        Step::Settle(_) => s,
+        Step::Reclaim(_) => s,
+        Step::Abandon(_) => s,
     }
 }
 
@@ -146,6 +187,7 @@ pub fn tell(
 ) -> State
     requires { ⌜ s .put + 256 ≤ length (now output) ⌝ }
     ensures { λ r. ⌜ Follows s r (length (now (output .entry))) (s .size) ⌝ }
+    ensures { λ r. ⌜ Puts (stepLine (s .number) step (shownOf outcome (isCutB s step) entries) words) s (toldOf s step) (now (output .entry)) (now (output .exit)) r ⌝ }
 {
     let cut = is_cut(s, step);
     let mut t = noted(s, step);
@@ -167,6 +209,7 @@ pub fn tell(
 fn replayed(output: &mut [u8], mut s: State, persist: u64) -> State
     requires { ⌜ s .put + 256 ≤ length (now output) ⌝ }
     ensures { λ r. ⌜ Follows s r (length (now (output .entry))) (s .size) ⌝ }
+    ensures { λ r. ⌜ Puts (replayedLine (s .number) persist) s (replayedOf s) (now (output .entry)) (now (output .exit)) r ⌝ }
 {
     let put = s.put;
     let number = s.number;
@@ -178,6 +221,7 @@ fn replayed(output: &mut [u8], mut s: State, persist: u64) -> State
 fn recovered(output: &mut [u8], mut s: State) -> State
     requires { ⌜ s .put + 256 ≤ length (now output) ⌝ }
     ensures { λ r. ⌜ Follows s r (length (now (output .entry))) (s .size) ⌝ }
+    ensures { λ r. ⌜ Puts (openLine (s .number)) s (recoveredOf s) (now (output .entry)) (now (output .exit)) r ⌝ }
 {
     let put = s.put;
     let number = s.number;
@@ -191,12 +235,16 @@ fn recovered(output: &mut [u8], mut s: State) -> State
 fn resume(image: &mut [u64], trace: &mut [u64], output: &mut [u8], s: State) -> State
     requires { ⌜ s .put + 256 ≤ length (now output) ⌝ }
     ensures { λ r. ⌜ Follows s r (length (now (output .entry))) (s .size) ⌝ }
+    ensures { λ r. ⌜ Puts (resumedLine (s .number) (recoverReply (now (image .entry)) (length (now (trace .entry))) .answer)) s (resumedOf s (recoverReply (now (image .entry)) (length (now (trace .entry))) .answer)) (now (output .entry)) (now (output .exit)) r ⌝ }
+    ensures { λ r. ⌜ now (image .exit) ≡ made (recoverEntries (now (image .entry)) (length (now (trace .entry)))) (now (image .entry)) ⌝ }
 {
     let r = store::recover(image, trace);
     let answer = r.answer;
     match answer {
+        RecoverAnswer::Refused(_) => recovered(output, s),
+        RecoverAnswer::Unsound(_) => recovered(output, s),
+        RecoverAnswer::Clean => recovered(output, s),
         RecoverAnswer::Replayed(p) => replayed(output, s, p),
-        _ => recovered(output, s),
     }
 }
 
@@ -211,6 +259,7 @@ pub fn other_turn(
 ) -> State
     requires { ⌜ Within s (length (now input)) (length (now output)) (length (now image)) × (s .put + 256 ≤ length (now output)) ⌝ }
     ensures { λ r. ⌜ Within r (length (now (input .entry))) (length (now (output .entry))) (length (now (image .entry))) × (r .number ≡ s .number) ⌝ }
+    ensures { λ r. ⌜ OtherTurn turn s (now (image .entry)) (now (image .exit)) (length (now (trace .entry))) (now (output .entry)) (now (output .exit)) r ⌝ }
 {
     match turn {
         Turn::Fill => fill(input, s),

@@ -88,7 +88,10 @@ slice-aggregate-make : tie.Need-slice-aggregate-make Inv-loop μ-loop
 slice-aggregate-make c = sym (length-take-le ((c .before .before .before .before .before .before) .next-turn .result .state .size) ((c .before .before .before .before .before .before .before .before .before .before .before) .loop .image) (search needs))
 
 make-requires : tie.Need-make-requires Inv-loop μ-loop
-make-requires c κs = search needs
+make-requires c κs =
+    let e = length-take-le ((c .before .before .before .before .before .before .before .before) .next-turn .result .state .size) ((c .before .before .before .before .before .before .before .before .before .before .before .before .before) .loop .image) (search needs) in
+    let inv = (c .before .before .before .before .before .before .before .before .before .before .before .before .before) .loop .inv in
+    omega (arith, e, (c .before .before .before .before .before .before .before .before) .next-turn .ensures .0 .3, inv .0 .sized, inv .2, inv .3, (c .before .before .before .before .before .before .before .before .before .before .before .before .before .before .before .before .before .before .before .before .before .before .before) .pre .2)
 
 tell-requires : tie.Need-tell-requires Inv-loop μ-loop
 tell-requires c κs = search needs
@@ -99,7 +102,7 @@ loop-less-2 c = omega (arith, (c .before .before .before .before .before .before
 loop-again-2 : tie.Need-loop-again-2 Inv-loop μ-loop
 loop-again-2 c =
     let t = (c .before .before .before .before .before .before .before .before .before .before .before .before .before .before .before .before .before .before .before .before .before) .next-turn .ensures .0
-    in let f = (c .before .before) .tell .ensures
+    in let f = (c .before .before) .tell .ensures .0
     in let inv = (c .before .before .before .before .before .before .before .before .before .before .before .before .before .before .before .before .before .before .before .before .before .before .before .before .before .before) .loop .inv
     in (
       renamed (turned (inv .0) (t .0) (t .1) (t .3) f (search needs)) (search needs) (search needs) (search needs),
@@ -120,7 +123,7 @@ loop-less-3 c = search needs
 loop-again-3 : tie.Need-loop-again-3 Inv-loop μ-loop
 loop-again-3 c =
     let t = (c .before .before .before .before .before .before .before .before .before .before .before .before .before .before .before .before) .next-turn .ensures .0
-    in let r = (c .before .before .before .before .before .before .before .before) .other-turn .ensures
+    in let r = (c .before .before .before .before .before .before .before .before) .other-turn .ensures .0
     in (renamed (r .0) (search needs) (search needs) (search needs), search needs, search needs, search needs, search needs, search needs, omega (arith, r .1, t .4, (c .before .before .before .before .before .before .before .before .before .before .before .before .before .before .before .before .before .before .before .before) .loop-test .taken, (c .before .before .before .before .before .before .before .before .before .before .before .before .before .before .before .before .before .before .before .before .before) .loop .inv .6))
 
 same-length-6 : tie.Need-same-length-6 Inv-loop μ-loop

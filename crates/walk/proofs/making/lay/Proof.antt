@@ -1,4 +1,8 @@
-use mathlib.Core.Path.{sym}
+use Prim.Native.Nat.{ℕ}
+use Rattle.layout.specs.declared.laying.LayAnswer.the-variants.{Laid}
+use Rattle.walk.specs.Make.{laidOf}
+use Rattle.walk.proofs.MakeLaws.{laid-by, laid-memory}
+use mathlib.Core.Path.{sym, ap}
 use lib.Seq.{length-take-le}
 use borrow.Author.Needs.{needs}
 use Rattle.walk.proofs.making.lay.Statement.{statement}
@@ -35,7 +39,12 @@ same-length-2 : tie.Need-same-length-2
 same-length-2 c = search needs
 
 returns : tie.Need-returns
-returns c = search needs
+returns c =
+    let a = (c .before .before .before .before .before .before .before .before .before .before .before .before .before .before) .args in
+    let size = (c .before .before .before .before .before .before .before .before .before .before .before) .image-size .ensures .1 in
+    let w = (c .before .before .before .before .before .before .before .before .before) .lay .ensures in
+    let e = laid-by (a .image .now) (a .n) (a .m) size (w .0) ((c .before .before .before .before .before) .answer .given .1) in
+    (search needs, ((rw e ((c .before .before) .put-line .ensures .0), rw e), laid-memory (a .image .now) (a .n) (a .m) size (w .1)))
 
 same-length-3 : tie.Need-same-length-3
 same-length-3 c = search needs
@@ -44,7 +53,12 @@ same-length-4 : tie.Need-same-length-4
 same-length-4 c = search needs
 
 returns-2 : tie.Need-returns-2
-returns-2 c = search needs
+returns-2 c =
+    let a = (c .before .before .before .before .before .before .before .before .before .before .before .before .before) .args in
+    let size = (c .before .before .before .before .before .before .before .before .before .before) .image-size .ensures .1 in
+    let w = (c .before .before .before .before .before .before .before .before) .lay .ensures in
+    let e = laid-by (a .image .now) (a .n) (a .m) size (w .0) ((c .before .before .before .before) .enum-told .given .1) in
+    (search needs, ((rw e ((c .before .before) .put-line2 .ensures .0), rw e (ap (λ (k : ℕ). laidOf (a .s) k Laid ((c .before .before) .put-line2 .result)) size)), laid-memory (a .image .now) (a .n) (a .m) size (w .1)))
 
 pub lay-spec : {M : Type 1} → statement M
 lay-spec =

@@ -1,4 +1,7 @@
-use mathlib.Core.Path.{sym}
+use Prim.Native.Nat.{ℕ}
+use mathlib.Core.List.{List, _++_}
+use mathlib.Core.Path.{refl, sym, ap}
+use lib.ListN.{drop}
 use lib.Seq.{length-take-le}
 use borrow.Author.Needs.{needs}
 use Rattle.walk.proofs.making.other_turn.Statement.{statement}
@@ -50,7 +53,7 @@ same-length : tie.Need-same-length
 same-length c = search needs
 
 returns : tie.Need-returns
-returns c = search needs
+returns c = (search needs, rw ((c .before .before .before .before) .enum-told .given .1) ((c .before .before) .fill .ensures .2, refl, refl))
 
 same-length-2 : tie.Need-same-length-2
 same-length-2 c = search needs
@@ -62,7 +65,7 @@ same-length-4 : tie.Need-same-length-4
 same-length-4 c = search needs
 
 returns-2 : tie.Need-returns-2
-returns-2 c = search needs
+returns-2 c = let w = (c .before .before .before .before .before .before) .resume .ensures in (search needs, rw ((c .before .before .before .before .before .before .before .before .before .before) .enum-told2 .given .1) (w .1 .0, ap (λ (l : List ℕ). l ++ drop ((c .before .before .before .before .before .before .before .before .before .before .before .before .before .before .before .before) .args .s .size) ((c .before .before .before .before .before .before .before .before .before .before .before .before .before .before .before .before) .args .image .now)) (w .1 .1)))
 
 same-length-5 : tie.Need-same-length-5
 same-length-5 c = search needs
@@ -71,22 +74,22 @@ same-length-6 : tie.Need-same-length-6
 same-length-6 c = search needs
 
 returns-3 : tie.Need-returns-3
-returns-3 c = search needs
+returns-3 c = (search needs, rw ((c .before .before .before .before .before .before .before .before) .turn .given .1) ((c .before .before .before .before) .lay .ensures .1))
 
 same-length-7 : tie.Need-same-length-7
 same-length-7 c = search needs
 
 returns-4 : tie.Need-returns-4
-returns-4 c = search needs
+returns-4 c = (search needs, rw ((c .before .before .before .before) .enum-told3 .given .1) ((c .before .before) .bad .ensures .1, refl))
 
 returns-5 : tie.Need-returns-5
-returns-5 c = search needs
+returns-5 c = (search needs, rw ((c .before) .enum-told4 .given .1) (c .stopped .ensures .1, refl, refl))
 
 returns-6 : tie.Need-returns-6
-returns-6 c = search needs
+returns-6 c = (search needs, rw (c .enum-told5 .given .1) (refl, refl, refl))
 
 returns-7 : tie.Need-returns-7
-returns-7 c = search needs
+returns-7 c = (search needs, rw (c .enum-told6 .given .1) (refl, refl, refl))
 
 pub other-turn-spec : {M : Type 1} → statement M
 other-turn-spec =

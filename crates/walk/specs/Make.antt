@@ -1,0 +1,231 @@
+-- A step made on the store, and the lines that it prints (document 01, "The program").
+use Prim.Native.Nat.{ℕ}
+use mathlib.Core.Bool.{Bool, true, false, not, _&&_, cond}
+use mathlib.Core.List.{List, _++_}
+use mathlib.Core.Path.{_≡_}
+use lib.ListN.{length, take, drop}
+use lib.Dec.{leb, ltb, eqb}
+use Rattle.layout.specs.Entries.{Entry, made}
+use Rattle.layout.specs.Image.{sizeOf}
+use Rattle.layout.specs.Lay.{layAnswer, laidImage}
+use Rattle.layout.specs.declared.laying.LayAnswer.{LayAnswer}
+use Rattle.layout.specs.declared.laying.LayAnswer.the-variants.{Refused as LayRefused, Laid}
+use Rattle.store.specs.Recover.{recoverReply, recoverEntries}
+use Rattle.store.specs.declared.recovering.RecoverAnswer.{RecoverAnswer}
+use Rattle.store.specs.declared.recovering.RecoverAnswer.the-variants.{Refused as RecoverRefused, Unsound, Clean, Replayed}
+use Rattle.steps.specs.Put.{Put}
+use Rattle.steps.specs.Result.{stepLine, badLine, replayedLine, openLine}
+use Rattle.steps.specs.Steps.{noWords}
+use Rattle.steps.specs.declared.step.Step.{Step}
+use Rattle.steps.specs.declared.step.Step.the-variants.{Lay, Begin, Read, Write, Finish, Publish, Settle, Reclaim, Abandon, Cut}
+use Rattle.steps.specs.declared.step.Outcome.{Outcome}
+use Rattle.steps.specs.declared.step.Outcome.the-variants.{Refused, Ok, Cut as WasCut}
+use Rattle.walk.specs.Turn.{stoppedOf}
+use Rattle.walk.specs.declared.state.State.{State}
+use Rattle.walk.specs.declared.turn.Turn.{Turn}
+use Rattle.walk.specs.declared.turn.Turn.the-variants.{Open, Recover, Fill, Call, Lay as LayTurn, Bad, End}
+
+-- the words that a step 0 asks for: 4 + 4N + 44M; none where N is above 256, M above 16 or the memory has fewer
+abbrev pub imageSize : ℕ → ℕ → ℕ → ℕ
+imageSize memory n m = cond (ltb 256 n) 0 (cond (ltb 16 m) 0 (cond (leb (sizeOf n m) memory) (sizeOf n m) 0))
+
+-- the kinds that store, and that a cut waits for: 4, 6 and 7
+abbrev pub storesB : Step → Bool
+storesB (Lay n m) = false
+storesB (Begin s) = false
+storesB (Read s r) = false
+storesB (Write s r) = false
+storesB (Finish s) = true
+storesB (Publish s) = false
+storesB (Settle s) = true
+storesB (Reclaim s) = true
+storesB (Abandon s) = false
+storesB (Cut k) = false
+
+-- the next step of such a kind after a step 9 is cut
+abbrev pub isCutB : State → Step → Bool
+isCutB s step = s .cutting && storesB step
+
+-- of a step that is cut only the first k entries arrive, all if it has fewer
+abbrev pub arrivesOf : State → Step → List Entry → List Entry
+arrivesOf s step es = cond (isCutB s step) (take (s .cut) es) es
+
+-- its result is "cut", or its usual result if it has no entries (a refused step has none)
+abbrev pub shownOf : Outcome → Bool → ℕ → Outcome
+shownOf o cut entries = cond (cut && not (eqb entries 0)) WasCut o
+
+-- one line is put behind the lines so far, and the state is the one that the rule gives for where it ends
+abbrev pub Puts : List ℕ → State → (ℕ → State) → List ℕ → List ℕ → State → Type 0
+Puts line s after out out′ r = Put line (s .put) out out′ (r .put) × (r ≡ after (r .put))
+
+-- the lines end at p
+abbrev pub putOf : State → ℕ → State
+putOf s p =
+    record {
+      at = s .at;
+      have = s .have;
+      put = p;
+      size = s .size;
+      number = s .number;
+      cut = s .cut;
+      cutting = s .cutting;
+      ended = s .ended;
+      lost = s .lost;
+      closed = s .closed;
+      stopped = s .stopped;
+    }
+
+-- a cut after k entries waits for the next step that stores
+abbrev pub cutAt : State → ℕ → State
+cutAt s k =
+    record {
+      at = s .at;
+      have = s .have;
+      put = s .put;
+      size = s .size;
+      number = s .number;
+      cut = k;
+      cutting = true;
+      ended = s .ended;
+      lost = s .lost;
+      closed = s .closed;
+      stopped = s .stopped;
+    }
+
+-- step 9 notes its k; a second one before the cut replaces it
+abbrev pub notedOf : State → Step → State
+notedOf s (Lay n m) = s
+notedOf s (Begin t) = s
+notedOf s (Read t r) = s
+notedOf s (Write t r) = s
+notedOf s (Finish t) = s
+notedOf s (Publish t) = s
+notedOf s (Settle t) = s
+notedOf s (Reclaim t) = s
+notedOf s (Abandon t) = s
+notedOf s (Cut k) = cutAt s k
+
+-- after a cut the desk is lost, and no other cut waits
+abbrev pub lostOf : State → State
+lostOf s =
+    record {
+      at = s .at;
+      have = s .have;
+      put = s .put;
+      size = s .size;
+      number = s .number;
+      cut = s .cut;
+      cutting = false;
+      ended = s .ended;
+      lost = true;
+      closed = s .closed;
+      stopped = s .stopped;
+    }
+
+-- after the line of a step on the opened store
+abbrev pub toldOf : State → Step → ℕ → State
+toldOf s step p = cond (isCutB s step) (lostOf (putOf (notedOf s step) p)) (putOf (notedOf s step) p)
+
+-- "bad", and a refused step 0: the line, and the walk stops
+abbrev pub badOf : State → ℕ → State
+badOf s p =
+    record {
+      at = s .at;
+      have = s .have;
+      put = p;
+      size = s .size;
+      number = s .number;
+      cut = s .cut;
+      cutting = s .cutting;
+      ended = s .ended;
+      lost = s .lost;
+      closed = s .closed;
+      stopped = true;
+    }
+
+-- "replayed P": the recovery goes on
+abbrev pub replayedOf : State → ℕ → State
+replayedOf = putOf
+
+-- "open": the recovery is over, and the image is to be opened
+abbrev pub recoveredOf : State → ℕ → State
+recoveredOf s p =
+    record {
+      at = s .at;
+      have = s .have;
+      put = p;
+      size = s .size;
+      number = s .number;
+      cut = s .cut;
+      cutting = s .cutting;
+      ended = s .ended;
+      lost = false;
+      closed = true;
+      stopped = s .stopped;
+    }
+
+-- after a cut "replayed P" for each log, then "open": the line of one call of recover, by its answer
+abbrev pub resumedLine : ℕ → RecoverAnswer → List ℕ
+resumedLine number (RecoverRefused k) = openLine number
+resumedLine number (Unsound place) = openLine number
+resumedLine number Clean = openLine number
+resumedLine number (Replayed p) = replayedLine number p
+
+-- and the state after it
+abbrev pub resumedOf : State → RecoverAnswer → ℕ → State
+resumedOf s (RecoverRefused k) p = recoveredOf s p
+resumedOf s (Unsound place) p = recoveredOf s p
+resumedOf s Clean p = recoveredOf s p
+resumedOf s (Replayed n) p = replayedOf s p
+
+-- step 0, lay and open: the part of the memory that is laid
+abbrev pub layPart : List ℕ → ℕ → ℕ → List ℕ
+layPart memory n m = take (imageSize (length memory) n m) memory
+
+-- the answer of lay on that part
+abbrev pub laying : List ℕ → ℕ → ℕ → LayAnswer
+laying memory n m = layAnswer n m (layPart memory n m)
+
+-- and the result that the line of step 0 shows
+abbrev pub layOutcome : LayAnswer → Outcome
+layOutcome (LayRefused k) = Refused k
+layOutcome Laid = Ok
+
+-- refused, it prints its line and stops; accepted, the image has that size and is to be opened
+abbrev pub laidOf : State → ℕ → LayAnswer → ℕ → State
+laidOf s size (LayRefused k) p = badOf s p
+laidOf s size Laid p =
+    record {
+      at = s .at;
+      have = s .have;
+      put = p;
+      size = size;
+      number = s .number;
+      cut = s .cut;
+      cutting = s .cutting;
+      ended = s .ended;
+      lost = s .lost;
+      closed = true;
+      stopped = s .stopped;
+    }
+
+-- the memory past that part is as it was
+abbrev pub memoryOf : List ℕ → ℕ → ℕ → List ℕ
+memoryOf memory n m = laidImage n m (layPart memory n m) ++ drop (imageSize (length memory) n m) memory
+
+-- what a turn that leaves the desk as it is does to the memory of the image, the lines and the state, by the rules above; `len` is the trace's
+-- length. What input a fill brings is free
+abbrev pub OtherTurn : Turn → State → List ℕ → List ℕ → ℕ → List ℕ → List ℕ → State → Type 0
+OtherTurn Open s memory memory′ len out out′ r = (r ≡ s) × (out′ ≡ out) × (memory′ ≡ memory)
+OtherTurn Recover s memory memory′ len out out′ r =
+    Puts (resumedLine (s .number) (recoverReply (take (s .size) memory) len .answer)) s
+    (resumedOf s (recoverReply (take (s .size) memory) len .answer)) out out′ r
+    × (memory′ ≡ made (recoverEntries (take (s .size) memory) len) (take (s .size) memory) ++ drop (s .size) memory)
+OtherTurn Fill s memory memory′ len out out′ r = (r .put ≡ s .put) × (out′ ≡ out) × (memory′ ≡ memory)
+OtherTurn (Call step) s memory memory′ len out out′ r = (r ≡ s) × (out′ ≡ out) × (memory′ ≡ memory)
+OtherTurn (LayTurn n m) s memory memory′ len out out′ r =
+    Puts (stepLine (s .number) (Lay n m) (layOutcome (laying memory n m)) noWords) s
+    (laidOf s (imageSize (length memory) n m) (laying memory n m)) out out′ r
+    × (memory′ ≡ memoryOf memory n m)
+OtherTurn Bad s memory memory′ len out out′ r = Puts (badLine (s .number)) s (badOf s) out out′ r × (memory′ ≡ memory)
+OtherTurn End s memory memory′ len out out′ r = (r ≡ stoppedOf s) × (out′ ≡ out) × (memory′ ≡ memory)
