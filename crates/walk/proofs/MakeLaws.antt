@@ -22,7 +22,8 @@ use Rattle.steps.specs.declared.step.Step.the-variants.{Lay, Begin, Read, Write
 use Rattle.steps.proofs.ApplyLaws.{applied-counted}
 use Rattle.steps.proofs.CutLaws.{overlaid-same, cut-made}
 use Rattle.walk.specs.declared.state.State.{State}
-use Rattle.walk.specs.Make.{imageSize, laying, memoryOf, storesB, isCutB, shownOf, notedOf, Puts, putOf, lostOf, toldOf}
+use Rattle.walk.specs.Make.{imageSize, laying, memoryOf, storesB, isCutB, shownOf, notedOf, Puts, toldOf}
+use Rattle.walk.specs.State.{putOf, lostOf}
 
 length-made : (es : List Entry) (img : List ℕ) → length (made es img) ≡ length img
 length-made [] img = refl

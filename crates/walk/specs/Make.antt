@@ -20,7 +20,7 @@ use Rattle.steps.specs.declared.step.Step.{Step}
 use Rattle.steps.specs.declared.step.Step.the-variants.{Lay, Begin, Read, Write, Finish, Publish, Settle, Reclaim, Abandon, Cut}
 use Rattle.steps.specs.declared.step.Outcome.{Outcome}
 use Rattle.steps.specs.declared.step.Outcome.the-variants.{Refused, Ok, Cut as WasCut}
-use Rattle.walk.specs.Turn.{stoppedOf}
+use Rattle.walk.specs.State.{putOf, stoppedOf, sizedOf, cutAt, lostOf, cleanOf}
 use Rattle.walk.specs.declared.state.State.{State}
 use Rattle.walk.specs.declared.turn.Turn.{Turn}
 use Rattle.walk.specs.declared.turn.Turn.the-variants.{Open, Recover, Fill, Call, Lay as LayTurn, Bad, End}
@@ -58,40 +58,6 @@ shownOf o cut entries = cond (cut && not (eqb entries 0)) WasCut o
 abbrev pub Puts : List ℕ → State → (ℕ → State) → List ℕ → List ℕ → State → Type 0
 Puts line s after out out′ r = Put line (s .put) out out′ (r .put) × (r ≡ after (r .put))
 
--- the lines end at p
-abbrev pub putOf : State → ℕ → State
-putOf s p =
-    record {
-      at = s .at;
-      have = s .have;
-      put = p;
-      size = s .size;
-      number = s .number;
-      cut = s .cut;
-      cutting = s .cutting;
-      ended = s .ended;
-      lost = s .lost;
-      closed = s .closed;
-      stopped = s .stopped;
-    }
-
--- a cut after k entries waits for the next step that stores
-abbrev pub cutAt : State → ℕ → State
-cutAt s k =
-    record {
-      at = s .at;
-      have = s .have;
-      put = s .put;
-      size = s .size;
-      number = s .number;
-      cut = k;
-      cutting = true;
-      ended = s .ended;
-      lost = s .lost;
-      closed = s .closed;
-      stopped = s .stopped;
-    }
-
 -- step 9 notes its k; a second one before the cut replaces it
 abbrev pub notedOf : State → Step → State
 notedOf s (Lay n m) = s
@@ -105,43 +71,13 @@ notedOf s (Reclaim t) = s
 notedOf s (Abandon t) = s
 notedOf s (Cut k) = cutAt s k
 
--- after a cut the desk is lost, and no other cut waits
-abbrev pub lostOf : State → State
-lostOf s =
-    record {
-      at = s .at;
-      have = s .have;
-      put = s .put;
-      size = s .size;
-      number = s .number;
-      cut = s .cut;
-      cutting = false;
-      ended = s .ended;
-      lost = true;
-      closed = s .closed;
-      stopped = s .stopped;
-    }
-
 -- after the line of a step on the opened store
 abbrev pub toldOf : State → Step → ℕ → State
 toldOf s step p = cond (isCutB s step) (lostOf (putOf (notedOf s step) p)) (putOf (notedOf s step) p)
 
 -- "bad", and a refused step 0: the line, and the walk stops
 abbrev pub badOf : State → ℕ → State
-badOf s p =
-    record {
-      at = s .at;
-      have = s .have;
-      put = p;
-      size = s .size;
-      number = s .number;
-      cut = s .cut;
-      cutting = s .cutting;
-      ended = s .ended;
-      lost = s .lost;
-      closed = s .closed;
-      stopped = true;
-    }
+badOf s p = stoppedOf (putOf s p)
 
 -- "replayed P": the recovery goes on
 abbrev pub replayedOf : State → ℕ → State
@@ -149,20 +85,7 @@ replayedOf = putOf
 
 -- "open": the recovery is over, and the image is to be opened
 abbrev pub recoveredOf : State → ℕ → State
-recoveredOf s p =
-    record {
-      at = s .at;
-      have = s .have;
-      put = p;
-      size = s .size;
-      number = s .number;
-      cut = s .cut;
-      cutting = s .cutting;
-      ended = s .ended;
-      lost = false;
-      closed = true;
-      stopped = s .stopped;
-    }
+recoveredOf s p = cleanOf (putOf s p)
 
 -- after a cut "replayed P" for each log, then "open": the line of one call of recover, by its answer
 abbrev pub resumedLine : ℕ → RecoverAnswer → List ℕ
@@ -194,20 +117,7 @@ layOutcome Laid = Ok
 -- refused, it prints its line and stops; accepted, the image has that size and is to be opened
 abbrev pub laidOf : State → ℕ → LayAnswer → ℕ → State
 laidOf s size (LayRefused k) p = badOf s p
-laidOf s size Laid p =
-    record {
-      at = s .at;
-      have = s .have;
-      put = p;
-      size = size;
-      number = s .number;
-      cut = s .cut;
-      cutting = s .cutting;
-      ended = s .ended;
-      lost = s .lost;
-      closed = true;
-      stopped = s .stopped;
-    }
+laidOf s size Laid p = sizedOf (putOf s p) size
 
 -- the memory past that part is as it was
 abbrev pub memoryOf : List ℕ → ℕ → ℕ → List ℕ

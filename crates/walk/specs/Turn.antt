@@ -1,7 +1,7 @@
 -- What the next turn of a walk does (document 01, "The program"). Assumes nothing.
-use Prim.Native.Nat.{ℕ, _+_, _-_}
+use Prim.Native.Nat.{ℕ, _-_}
 use mathlib.Core.List.{List}
-use mathlib.Core.Bool.{Bool, true, false, not, _&&_, cond}
+use mathlib.Core.Bool.{Bool, not, _&&_, cond}
 use lib.ListN.{take, drop}
 use lib.Dec.{ltb, eqb}
 use Rattle.steps.specs.Steps.{noWords, decodeOf}
@@ -10,95 +10,11 @@ use Rattle.steps.specs.declared.step.Step.the-variants.{Lay, Begin, Read, Write
 use Rattle.steps.specs.declared.decoding.Found.{Found}
 use Rattle.steps.specs.declared.decoding.Found.the-variants.{Whole, Bad as Unknown, Short, End as Nothing}
 use Rattle.steps.specs.declared.decoding.Decoded.{Decoded}
+use Rattle.walk.specs.State.{countedOf, writtenOf}
 use Rattle.walk.specs.declared.state.State.{State}
 use Rattle.walk.specs.declared.turn.Turn.{Turn}
 use Rattle.walk.specs.declared.turn.Turn.the-variants.{Open, Recover, Fill, Call, Lay as LayOut, Bad, End}
 use Rattle.walk.specs.declared.turn.Taken.{Taken}
-
--- a walk starts before the first step, with no image
-abbrev pub startOf : ℕ → Bool → State
-startOf have ended =
-    record {
-      at = 0;
-      have = have;
-      put = 0;
-      size = 0;
-      number = 0;
-      cut = 0;
-      cutting = false;
-      ended = ended;
-      lost = false;
-      closed = false;
-      stopped = false;
-    }
-
--- behind a step of this many bytes; the lines count the steps from 1
-abbrev pub countedOf : State → ℕ → State
-countedOf s bytes =
-    record {
-      at = s .at + bytes;
-      have = s .have;
-      put = s .put;
-      size = s .size;
-      number = s .number + 1;
-      cut = s .cut;
-      cutting = s .cutting;
-      ended = s .ended;
-      lost = s .lost;
-      closed = s .closed;
-      stopped = s .stopped;
-    }
-
--- the walk stops
-abbrev pub stoppedOf : State → State
-stoppedOf s =
-    record {
-      at = s .at;
-      have = s .have;
-      put = s .put;
-      size = s .size;
-      number = s .number;
-      cut = s .cut;
-      cutting = s .cutting;
-      ended = s .ended;
-      lost = s .lost;
-      closed = s .closed;
-      stopped = true;
-    }
-
--- the image is opened
-abbrev pub openedOf : State → State
-openedOf s =
-    record {
-      at = s .at;
-      have = s .have;
-      put = s .put;
-      size = s .size;
-      number = s .number;
-      cut = s .cut;
-      cutting = s .cutting;
-      ended = s .ended;
-      lost = s .lost;
-      closed = false;
-      stopped = s .stopped;
-    }
-
--- lines may have been written: only `put` and `stopped` may be other than before
-abbrev pub writtenOf : State → ℕ → Bool → State
-writtenOf s put stopped =
-    record {
-      at = s .at;
-      have = s .have;
-      put = put;
-      size = s .size;
-      number = s .number;
-      cut = s .cut;
-      cutting = s .cutting;
-      ended = s .ended;
-      lost = s .lost;
-      closed = s .closed;
-      stopped = stopped;
-    }
 
 -- a step other than 0 is bad where no image is laid: the first step has to be 0
 abbrev pub callTurn : Step → Bool → Turn

@@ -2,7 +2,7 @@
 ghost use mathlib.Core.Path.{_≡_};
 ghost use Prim.Native.Nat.{_+_, _≤_};
 ghost use lib.ListN.{length};
-ghost use Rattle.walk.specs.Turn.{writtenOf};
+ghost use Rattle.walk.specs.State.{writtenOf};
 use crate::state::State;
 
 // Takes more input; it has ended where nothing came.

@@ -2,7 +2,7 @@
 ghost use mathlib.Core.Path.{_≡_};
 ghost use Prim.Native.Nat.{_+_, _≤_, _<_, _^_};
 ghost use Rattle.walk.specs.Bounds.{Follows};
-ghost use Rattle.walk.specs.Turn.{startOf, countedOf, stoppedOf, openedOf};
+ghost use Rattle.walk.specs.State.{startOf, countedOf, stoppedOf, openedOf};
 
 // The input held is input[at..have], the lines not yet written are output[..put], the image is the first `size` words (0: not laid yet).
 // `cutting`: of the next step that stores, `cut` entries arrive. `lost`: the desk is lost, and recovery is to come. `closed`: the image is to be

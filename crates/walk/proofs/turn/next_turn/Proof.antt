@@ -5,7 +5,8 @@ use mathlib.Core.Path.{_≡_, refl, ap, _∙_}
 use Rattle.walk.specs.declared.state.State.{State}
 use Rattle.walk.specs.declared.turn.Turn.the-variants.{Open, Recover, Fill}
 use Rattle.walk.specs.declared.turn.Taken.{Taken}
-use Rattle.walk.specs.Turn.{writtenOf, afterWrite, asideOf, takenOf, hungryB, turnOf}
+use Rattle.walk.specs.State.{writtenOf}
+use Rattle.walk.specs.Turn.{afterWrite, asideOf, takenOf, hungryB, turnOf}
 use borrow.Author.Needs.{needs}
 use Rattle.walk.proofs.turn.next_turn.Statement.{statement}
 use Rattle.walk.proofs.turn.next_turn.Tie as tie
