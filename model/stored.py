@@ -6,6 +6,7 @@
 A stream of `schedules` stands behind its length in bytes, as four bytes, lowest first.
 """
 
+import multiprocessing
 import os
 import struct
 import sys
@@ -23,31 +24,26 @@ SEEDS["long"] = 6
 RAW_SEED, RAW_CASES = 1, 3120
 
 
-def schedules():
-    """The streams, and the lines that they must print."""
-    data, lines = b"", b""
-    for kind, seeds in SEEDS.items():
-        for seed in range(1, seeds + 1):
-            stream = streams.stream(kind, seed)
-            data += struct.pack("<I", len(stream)) + stream
-            lines += reelwalk.output(stream)
-    return data, lines
+def schedule(kind_and_seed):
+    """A stream behind its length, and the lines that it must print."""
+    stream = streams.stream(*kind_and_seed)
+    return struct.pack("<I", len(stream)) + stream, reelwalk.output(stream)
 
 
-def raw_cases():
-    """The raw cases, packed, and the lines that they must give."""
-    data, lines = b"", []
-    for number in range(RAW_CASES):
-        case, _ = raw.make(RAW_SEED, number)
-        data += raw.packed(raw.case_words(case))
-        lines.append(raw.want_line(number, case))
-    return data, ("\n".join(lines) + "\n").encode()
+def raw_case(number):
+    """A raw case, packed, and the line that it must give."""
+    case, _ = raw.make(RAW_SEED, number)
+    return raw.packed(raw.case_words(case)), (raw.want_line(number, case) + "\n").encode()
 
 
 def files():
-    for crate, make in (("schedules", schedules), ("rawcases", raw_cases)):
-        for name, content in zip(("stdin", "stdout"), make()):
-            yield os.path.join(CRATES, crate, name), content
+    """Path and content of each file; the cases are made on all processors."""
+    kinds = [(kind, seed) for kind, seeds in SEEDS.items() for seed in range(1, seeds + 1)]
+    with multiprocessing.Pool() as pool:
+        for crate, make, cases in (("schedules", schedule, kinds), ("rawcases", raw_case, range(RAW_CASES))):
+            made = pool.map(make, cases, chunksize=8)
+            for i, name in enumerate(("stdin", "stdout")):
+                yield os.path.join(CRATES, crate, name), b"".join(part[i] for part in made)
 
 
 def main(words):
