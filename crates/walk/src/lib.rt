@@ -1,5 +1,5 @@
-// A walk through a step stream. `run` is public for the programs above: it asks for an output buffer of 256 bytes or more, and for a `before` at
-// least as long as the image.
+// A walk through a step stream. `run` is public for the programs above: it asks for an output buffer of 256 bytes or more, for a `before` at least
+// as long as the image, and that the bytes said to be held fit the input buffer.
 ghost use mathlib.Core.Path.{_≡_};
 ghost use Prim.Native.Nat.{_+_, _<_, _≤_};
 ghost use lib.ListN.{length};
