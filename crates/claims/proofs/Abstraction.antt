@@ -11,7 +11,8 @@ use lib.ListN.{length, getD, set}
 use lib.Seq.{getD-set-same, getD-set-other}
 use lib.Dec.{T as So, eqb, ltb, eqb→eq}
 use borrow.Author.Tests.{eq-eqb, ne-eqb, ltb-true, ltb-false}
-use Rattle.layout.specs.Below.{lowest as lowestBelow, lowest-most, lowest-none}
+use Rattle.layout.specs.Below.{lowest}
+use Rattle.layout.proofs.BelowLaws.{lowest-most, lowest-none}
 use Rattle.layout.proofs.Says.{says-and, says-lt, says-eq}
 use Rattle.desk.specs.Desk.{noCopy, noSession, copiedRec, copiedWords, sessionAt, markAt, isIdle}
 use Rattle.desk.specs.declared.state.Phase.{Phase}
@@ -21,10 +22,10 @@ use Rattle.desk.specs.declared.state.Session.{Session}
 use Rattle.desk.specs.declared.state.Desk.{Desk}
 use Rattle.desk.specs.Coherent.{placeHas}
 use Rattle.desk.proofs.Facts.{Copies, CountIn, Coherent}
-use Rattle.store.specs.Session.{ownPlace}
-use Rattle.store.proofs.OwnPlace.{own-found}
-use Rattle.history.specs.Desk.{Copy, find, put, Session as Txn, idle, active, sealed, published, copies, Desk as Txns, upd, with-session, found, lowest, holder}
-use Rattle.history.proofs.Copies.{Mem, Fresh, Found, find?, upd-same, upd-other, Lowest, lowest?}
+use Rattle.snapshot.specs.Own.{ownPlace}
+use Rattle.snapshot.proofs.OwnPlace.{own-found}
+use Rattle.history.specs.Desk.{Copy, find, put, Session as Txn, idle, active, sealed, published, copies, Desk as Txns, upd, with-session, found, firstOf, holder}
+use Rattle.history.proofs.Copies.{Mem, Fresh, Found, find?, upd-same, upd-other, Lowest, firstOf?}
 
 -- the first k copy places, as a list of copies
 abbrev pub front : ℕ → List RecordCopy → List Copy
@@ -99,16 +100,16 @@ front-put r k ws ps l f = front-more k _ ps l ∙ sym (put-fresh r ws (front k p
 -- ---- the place of a record
 
 -- the lowest number that passes a test passes it, and no number below does
-lowest-is : (p : ℕ → Bool) (n : ℕ) → lowestBelow n p < n → (p (lowestBelow n p) ≡ true) × ((i : ℕ) → i < lowestBelow n p → p i ≡ false)
-unfolding lowestBelow
+lowest-is : (p : ℕ → Bool) (n : ℕ) → lowest n p < n → (p (lowest n p) ≡ true) × ((i : ℕ) → i < lowest n p → p i ≡ false)
+unfolding lowest
 lowest-is p zero l = absurd (omega arith)
-lowest-is p (suc n) l = go (ltb (lowestBelow n p) n) refl (p n) refl l (lowest-is p n)
+lowest-is p (suc n) l = go (ltb (lowest n p) n) refl (p n) refl l (lowest-is p n)
   where
-    go : (b : Bool) → ltb (lowestBelow n p) n ≡ b → (c : Bool) → p n ≡ c → cond b (lowestBelow n p) (cond c n (suc n)) < suc n
-        → (lowestBelow n p < n → (p (lowestBelow n p) ≡ true) × ((i : ℕ) → i < lowestBelow n p → p i ≡ false))
-        → (p (cond b (lowestBelow n p) (cond c n (suc n))) ≡ true) × ((i : ℕ) → i < cond b (lowestBelow n p) (cond c n (suc n)) → p i ≡ false)
-    go true x c y l ih = ih (ltb-true (lowestBelow n p) n x)
-    go false x true y l ih = (y, lowest-none p n (omega (arith, ltb-false (lowestBelow n p) n x, lowest-most p n)))
+    go : (b : Bool) → ltb (lowest n p) n ≡ b → (c : Bool) → p n ≡ c → cond b (lowest n p) (cond c n (suc n)) < suc n
+        → (lowest n p < n → (p (lowest n p) ≡ true) × ((i : ℕ) → i < lowest n p → p i ≡ false))
+        → (p (cond b (lowest n p) (cond c n (suc n))) ≡ true) × ((i : ℕ) → i < cond b (lowest n p) (cond c n (suc n)) → p i ≡ false)
+    go true x c y l ih = ih (ltb-true (lowest n p) n x)
+    go false x true y l ih = (y, lowest-none p n (omega (arith, ltb-false (lowest n p) n x, lowest-most p n)))
     go false x false y l ih = absurd (omega arith)
 
 -- of k places, i is the first with record r
@@ -214,7 +215,7 @@ module _ (d : Desk) (h : Coherent d) (long : (s : ℕ) → s < 16 → length (se
 
   -- the session that copies a record is the one that its mark names
   pub holder-mark : (r : ℕ) → r < 256 → holder (d .m) (abs d) r ≡ marked (markAt d r)
-  holder-mark r l = go (markAt d r) refl (holder (d .m) (abs d) r) (lowest? (λ t. found (find r (copies (pack (sessionAt d t))))) (d .m))
+  holder-mark r l = go (markAt d r) refl (holder (d .m) (abs d) r) (firstOf? (λ t. found (find r (copies (pack (sessionAt d t))))) (d .m))
     where
       mark : (t : ℕ) → t < d .m → So (found (find r (copies (pack (sessionAt d t))))) → markAt d r ≡ suc t
       mark t b y =

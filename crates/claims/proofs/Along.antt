@@ -8,12 +8,12 @@ use native.Mathlib.Omega.{arith}
 use lib.ListN.{getD}
 use Rattle.layout.specs.Entries.{Entry, made}
 use Rattle.layout.specs.Image.{recordsOf, sessionsOf}
-use Rattle.store.specs.Open.{openReply}
+use Rattle.recovery.specs.Open.{openReply}
 use Rattle.desk.specs.declared.state.Desk.{Desk}
-use Rattle.store.specs.declared.opening.OpenAnswer.the-variants.{Ok as Opened}
-use Rattle.store.specs.declared.finishing.FinishAnswer.the-variants.{Refused as FinishRefused}
-use Rattle.store.specs.declared.settling.SettleAnswer.the-variants.{Refused as SettleRefused}
-use Rattle.store.specs.declared.reclaiming.ReclaimAnswer.the-variants.{Refused as ReclaimRefused}
+use Rattle.recovery.specs.declared.opening.OpenAnswer.the-variants.{Ok as Opened}
+use Rattle.commit.specs.declared.finishing.FinishAnswer.the-variants.{Refused as FinishRefused}
+use Rattle.commit.specs.declared.settling.SettleAnswer.the-variants.{Refused as SettleRefused}
+use Rattle.commit.specs.declared.reclaiming.ReclaimAnswer.the-variants.{Refused as ReclaimRefused}
 use Rattle.history.specs.History.{Call as Op, begin as begin′, read as read′, write as write′, abandon as abandon′, finish as finish′, publish as publish′, settle as settle′, reclaim as reclaim′}
 use Rattle.history.specs.Calls.{reply}
 use Rattle.history.specs.Run.{World as Abstract, after}

@@ -6,8 +6,9 @@ use native.Mathlib.Omega.{arith}
 use native.Mathlib.Nat.{add-zero}
 use lib.ListN.{length, getD}
 use Rattle.layout.specs.Entries.{Entry, store, Write, stores, shift}
-use Rattle.layout.specs.Log.{placeWrites, bodyWrites, homesWrites, logEntries}
-use Rattle.layout.specs.Trace.{shift-append}
+use Rattle.journal.specs.Log.{placeWrites, bodyWrites, logEntries}
+use Rattle.layout.specs.Homes.{homesWrites}
+use Rattle.layout.proofs.TraceLaws.{shift-append}
 use Rattle.desk.specs.Desk.{noCopy, copiedRec, copiedWords}
 use Rattle.desk.specs.declared.state.RecordCopy.{RecordCopy}
 use Rattle.desk.specs.declared.state.Session.{Session}

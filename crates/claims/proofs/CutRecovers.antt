@@ -19,10 +19,10 @@ use Rattle.desk.specs.declared.state.Phase.{Phase}
 use Rattle.desk.specs.declared.state.Phase.the-variants.{Idle, Active, Sealed as SealedPhase, Published}
 use Rattle.desk.specs.declared.state.Session.{Session}
 use Rattle.desk.proofs.Facts.{CountIn, SessionIn}
-use Rattle.store.specs.Recover.{recoverEntries}
-use Rattle.store.specs.Finish.{finishReply}
-use Rattle.store.specs.declared.finishing.FinishAnswer.{FinishAnswer}
-use Rattle.store.specs.declared.finishing.FinishAnswer.the-variants.{Refused as FinishRefused, Empty, Sealed}
+use Rattle.recovery.specs.Recover.{recoverEntries}
+use Rattle.commit.specs.Finish.{finishReply}
+use Rattle.commit.specs.declared.finishing.FinishAnswer.{FinishAnswer}
+use Rattle.commit.specs.declared.finishing.FinishAnswer.the-variants.{Refused as FinishRefused, Empty, Sealed}
 use Rattle.history.specs.Log.{Final}
 use Rattle.history.specs.Layout.{Home, view}
 use Rattle.history.specs.Desk.{spot, Desk as Txns}
@@ -32,7 +32,7 @@ use Rattle.history.specs.Run.{slot-of, number-arrived, crash-finish, crash-feed
 use Rattle.history.proofs.Kept.{Crashed, crashed, Done, done}
 use Rattle.claims.specs.Call.{Call, begin, read, write, abandon, finish, publish, settle, reclaim, finished}
 use Rattle.claims.specs.History.{History, recordOf, sealing}
-use Rattle.claims.specs.Ledger.{four}
+use Rattle.history.specs.Ledger.{fourWords}
 use Rattle.claims.specs.Rules.{storeRules}
 use Rattle.claims.specs.Run.{World, event, entries}
 use Rattle.claims.specs.Recovery.{Try, afterTries, afterEnded}
@@ -145,7 +145,7 @@ module _ (N M : ℕ) (w : World) (a : Along N M w) where
 -- ---- recovery
 
 -- word j of a record that stands at home
-four-words : (img : List ℕ) (r : ℕ) (ws : List ℕ) → ((j : ℕ) → j < 4 → getD img (spot r j) 0 ≡ getD ws j 0) → homeWords img r ≡ four ws
+four-words : (img : List ℕ) (r : ℕ) (ws : List ℕ) → ((j : ℕ) → j < 4 → getD img (spot r j) 0 ≡ getD ws j 0) → homeWords img r ≡ fourWords ws
 four-words img r ws f =
     let e : spot r 0 ≡ homeAt r = omega arith in
     let a : getD img (homeAt r) 0 ≡ getD ws 0 0 = rw e at (f 0 (omega arith)) in
@@ -174,5 +174,5 @@ module _ (N M : ℕ) (img : List ℕ) (h : History) (w : Whole N M img) (c : Cra
   pub ends : Recovered N M home-of (afterEnded recoverEntries x (countBelow (2 * M) (occupiedAt tried N)) tried)
   ends = recovered N M img home-of w (c .good) finals tries x (countBelow (2 * M) (occupiedAt tried N)) (le-refl _)
 
-  pub ends-records : (r : ℕ) → r < N → homeWords (afterEnded recoverEntries x (countBelow (2 * M) (occupiedAt tried N)) tried) r ≡ four (recordOf h r)
+  pub ends-records : (r : ℕ) → r < N → homeWords (afterEnded recoverEntries x (countBelow (2 * M) (occupiedAt tried N)) tried) r ≡ fourWords (recordOf h r)
   ends-records r l = rw (record-same h r) (four-words (afterEnded recoverEntries x (countBelow (2 * M) (occupiedAt tried N)) tried) r (last (past h) r) (λ j lj. ends .words (spot r j) (omega arith) ∙ back r j lj))

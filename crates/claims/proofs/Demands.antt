@@ -11,12 +11,12 @@ use Rattle.layout.specs.Checks.{answered}
 use Rattle.layout.specs.Image.{recordsOf, sessionsOf, homeWords}
 use Rattle.desk.specs.Desk.{sessionAt, copyAt}
 use Rattle.desk.specs.declared.state.Desk.{Desk}
-use Rattle.store.specs.Session.{ownPlace}
-use Rattle.store.specs.declared.reading.ReadReply.{ReadReply}
-use Rattle.store.specs.declared.reading.ReadAnswer.the-variants.{Own, Copy, Home}
-use Rattle.store.specs.Open.{openReply}
-use Rattle.store.specs.Read.{readFault, readReply, readRefused, readDone, readGives, copyShown, startOf, holderOf}
-use Rattle.store.specs.declared.opening.OpenAnswer.the-variants.{Ok as Opened}
+use Rattle.snapshot.specs.Own.{ownPlace}
+use Rattle.snapshot.specs.declared.reading.ReadReply.{ReadReply}
+use Rattle.snapshot.specs.declared.reading.ReadAnswer.the-variants.{Own, Copy, Home}
+use Rattle.recovery.specs.Open.{openReply}
+use Rattle.snapshot.specs.Read.{readFault, readReply, readRefused, readDone, readGives, copyShown, startOf, holderEntry}
+use Rattle.recovery.specs.declared.opening.OpenAnswer.the-variants.{Ok as Opened}
 use Rattle.history.proofs.Due.{linked-due}
 use Rattle.claims.specs.Call.{Call, begin, read, write, abandon, finish, publish, settle, reclaim, Event, began, looked, wrote, abandoned, finished, published as made-public, settled, reclaimed}
 use Rattle.history.specs.Desk.{find, Session, idle, active, sealed, published, Desk as Txns}
@@ -24,7 +24,8 @@ use Rattle.history.specs.Layout.{view}
 use Rattle.history.proofs.Invariant.{Active}
 use Rattle.claims.proofs.Abstraction.{abs}
 use Rattle.claims.specs.History.{History, viewAt}
-use Rattle.claims.specs.Ledger.{Ledger, four, dueOther, dueOwn, dueRead, unread, shownBy, holderOf as holding, due}
+use Rattle.history.specs.Ledger.{fourWords}
+use Rattle.claims.specs.Ledger.{Ledger, dueOther, dueOwn, dueRead, unread, shownBy, holderOf, due}
 use Rattle.claims.specs.Rules.{storeRules}
 use Rattle.claims.specs.Run.{World, opened, event, run}
 use Rattle.claims.specs.Demands.{Demand2, ReadRight, Cut, opening, during, before, cutImage, cutHistory, Demand3}
@@ -46,7 +47,7 @@ blank-read img d s r zero = go (ltb (ownPlace (sessionAt d s) r) 4) (copyShown d
     own = readGives d Own (copyAt (sessionAt d s) (ownPlace (sessionAt d s) r) .words)
 
     other : ReadReply
-    other = readGives d Copy (copyAt (holderOf d r) (ownPlace (holderOf d r) r) .words)
+    other = readGives d Copy (copyAt (holderEntry d r) (ownPlace (holderEntry d r) r) .words)
 
     home : ReadReply
     home = readGives d Home (homeWords img r)
@@ -130,11 +131,11 @@ due-right N M w a h stays s r = over (leb M s) (nleb→lt M s) (leb N r)
 
         other : (z : Bool) → EventRight h (w .ledger .history .start s) (dueOther s r z (viewAt (w .ledger .history) b r))
         other true = same-view
-        other false = ap four same-view
+        other false = ap fourWords same-view
 
         own : (o : Option (List ℕ)) → EventRight h (w .ledger .history .start s)
-            (dueOwn s r o (dueOther s r (shownBy b (w .ledger .session) (holding M (w .ledger .session) r)) (viewAt (w .ledger .history) b r)))
-        own none = other (shownBy b (w .ledger .session) (holding M (w .ledger .session) r))
+            (dueOwn s r o (dueOther s r (shownBy b (w .ledger .session) (holderOf M (w .ledger .session) r)) (viewAt (w .ledger .history) b r)))
+        own none = other (shownBy b (w .ledger .session) (holderOf M (w .ledger .session) r))
         own (some ws) = tt
     at l (sealed n q cs) e = tt
     at l (published f q cs) e = tt

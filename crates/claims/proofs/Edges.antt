@@ -1,24 +1,25 @@
 -- The lettered cases, by computation.
 use mathlib.Core.Path.{refl}
 use Rattle.layout.specs.Below.{allBelow, anyBelow, countBelow, lowest}
-use Rattle.layout.specs.Checks.{first, commonFault, answered}
+use Rattle.layout.specs.Checks.{first, answered}
 use Rattle.layout.specs.Image.{shapedB, occupiedB}
 use Rattle.layout.specs.Lay.{layFault, layAnswer}
-use Rattle.layout.specs.Log.{homesWrites, bodyWrites, unsoundB, sharedB}
-use Rattle.layout.specs.Oldest.{oldestOf}
+use Rattle.layout.specs.Homes.{homesWrites}
+use Rattle.journal.specs.Log.{bodyWrites, unsoundB, sharedB}
+use Rattle.journal.specs.Oldest.{oldestOf}
 use Rattle.desk.specs.Desk.{unmarked}
 use Rattle.desk.specs.Coherent.{freshB, placesOk, sessionOk, copiesB, coherentB}
-use Rattle.store.specs.Session.{entryFault}
-use Rattle.store.specs.Open.{openFault, openReply}
-use Rattle.store.specs.Read.{readFault, readReply}
-use Rattle.store.specs.Write.{copyFault, writeFault, writeRefused, writeReply}
-use Rattle.store.specs.Finish.{finishFault, finishEntries, finishReply}
-use Rattle.store.specs.Reclaim.{reclaimFault, reclaimReply}
-use Rattle.store.specs.Recover.{unsoundPlace, tiedBelow, tiesB, recoverFault, firstLog, recoverRefused, recoverReply}
+use Rattle.desk.specs.Entering.{entryFault}
+use Rattle.recovery.specs.Open.{openFault, openReply}
+use Rattle.snapshot.specs.Read.{readFault, readReply}
+use Rattle.snapshot.specs.Write.{copyFault, writeFault, writeRefused, writeReply}
+use Rattle.commit.specs.Finish.{finishFault, finishEntries, finishReply}
+use Rattle.commit.specs.Reclaim.{reclaimFault, reclaimReply}
+use Rattle.recovery.specs.Recover.{unsoundPlace, tiedBelow, tiesB, recoverFault, firstLog, recoverRefused, recoverReply}
 use Rattle.claims.specs.Edges.{Edges}
 
 pub edges : Edges
-unfolding allBelow anyBelow countBelow lowest first commonFault answered shapedB occupiedB layFault layAnswer homesWrites bodyWrites unsoundB sharedB oldestOf unmarked freshB placesOk sessionOk copiesB coherentB entryFault openFault openReply readFault readReply copyFault writeFault writeRefused writeReply finishFault finishEntries finishReply reclaimFault reclaimReply unsoundPlace tiedBelow tiesB recoverFault firstLog recoverRefused recoverReply
+unfolding allBelow anyBelow countBelow lowest first answered shapedB occupiedB layFault layAnswer homesWrites bodyWrites unsoundB sharedB oldestOf unmarked freshB placesOk sessionOk copiesB coherentB entryFault openFault openReply readFault readReply copyFault writeFault writeRefused writeReply finishFault finishEntries finishReply reclaimFault reclaimReply unsoundPlace tiedBelow tiesB recoverFault firstLog recoverRefused recoverReply
 edges =
     record {
       a-lay = refl;

@@ -7,14 +7,14 @@ use native.Mathlib.Omega.{arith}
 use lib.ListN.{length, set}
 use lib.Dec.{leb, ltb}
 use borrow.Author.Tests.{lt-ltb, le-ltb, leb-true, leb-false}
-use Rattle.layout.specs.Checks.{unless, first, commonFault}
+use Rattle.layout.specs.Checks.{unless, first}
 use Rattle.layout.proofs.Says.{by-test}
 use Rattle.desk.specs.Desk.{sessionAt, markAt, idleSession, unmarked, dropped}
 use Rattle.desk.specs.Coherent.{coherentB}
 use Rattle.desk.specs.declared.state.Session.{Session}
 use Rattle.desk.specs.declared.state.Desk.{Desk}
 use Rattle.desk.proofs.Facts.{says-coherent}
-use Rattle.store.specs.Session.{imageFault}
+use Rattle.desk.specs.Entering.{sessionFault, deskFault, imageFault}
 use Rattle.history.specs.Desk.{Session as Txn, idle, with-session, holder}
 use Rattle.history.specs.History.{Answer}
 use Rattle.history.specs.Calls.{say}
@@ -28,8 +28,8 @@ refused-from m s k =
 
 module _ (N M : ℕ) (img : List ℕ) (d : Desk) (h : Ready N M img d) where
   -- of the shared checks of a call without an image only 4 can refuse
-  pub desk-check : (s : ℕ) → commonFault true (coherentB d) true (ltb s (d .m)) ≡ cond (leb M s) 4 0
-  unfolding commonFault first
+  pub desk-check : (s : ℕ) → deskFault d s ≡ cond (leb M s) 4 0
+  unfolding sessionFault first
   desk-check s = rw (says-coherent d .no (h .coherent), h .m-same) (refused-from M s 4)
 
   -- and of those of a call with an image

@@ -8,12 +8,13 @@ use borrow.Author.Tests.{eqb-false}
 use lib.ListN.{getD}
 use lib.Dec.{ltb, eqb}
 use Rattle.layout.specs.Below.{allBelow, anyBelow, countBelow, lowest}
-use Rattle.layout.specs.Checks.{unless, first, commonFault, answered}
+use Rattle.layout.specs.Checks.{unless, first, answered}
 use Rattle.layout.specs.Image.{shapedB, occupiedB, occupiedAt, homeWords}
 use Rattle.layout.specs.Crash.{crashed}
 use Rattle.layout.specs.Lay.{emptyImage}
-use Rattle.layout.specs.Log.{homesWrites, bodyWrites, unsoundB, sharedB}
-use Rattle.layout.specs.Oldest.{oldestOf}
+use Rattle.layout.specs.Homes.{homesWrites}
+use Rattle.journal.specs.Log.{bodyWrites, unsoundB, sharedB}
+use Rattle.journal.specs.Oldest.{oldestOf}
 use Rattle.desk.specs.Desk.{unmarked, sessionAt, markAt, isIdle, isActive, isSealed, isPublished}
 use Rattle.desk.specs.Begin.{beginFault, beginRefused, begun, beginReply}
 use Rattle.desk.specs.Abandon.{abandonReply}
@@ -21,28 +22,30 @@ use Rattle.desk.specs.Publish.{publishFault, publishRefused, published, publish
 use Rattle.desk.specs.Coherent.{limit, coherentB}
 use Rattle.desk.specs.declared.state.Desk.{Desk}
 use Rattle.desk.proofs.Facts.{says-coherent}
-use Rattle.store.specs.Session.{entryFault, roomFor}
-use Rattle.store.specs.Open.{openFault, openReply, freshDesk}
-use Rattle.store.specs.declared.opening.OpenAnswer.the-variants.{Ok as Opened}
-use Rattle.store.specs.declared.settling.SettleReply.{SettleReply}
-use Rattle.store.specs.declared.finishing.FinishReply.{FinishReply}
+use Rattle.desk.specs.Entering.{sessionFault, entryFault}
+use Rattle.layout.specs.Checks.{roomFor}
+use Rattle.recovery.specs.Open.{openFault, openReply, freshDesk}
+use Rattle.recovery.specs.declared.opening.OpenAnswer.the-variants.{Ok as Opened}
+use Rattle.commit.specs.declared.settling.SettleReply.{SettleReply}
+use Rattle.commit.specs.declared.finishing.FinishReply.{FinishReply}
 use Rattle.layout.specs.Entries.{Entry}
-use Rattle.store.specs.declared.reclaiming.ReclaimReply.{ReclaimReply}
-use Rattle.store.specs.declared.reclaiming.ReclaimAnswer.the-variants.{Cleared}
-use Rattle.store.specs.declared.reading.ReadReply.{ReadReply}
-use Rattle.store.specs.declared.reading.ReadAnswer.the-variants.{Own, Home}
+use Rattle.commit.specs.declared.reclaiming.ReclaimReply.{ReclaimReply}
+use Rattle.commit.specs.declared.reclaiming.ReclaimAnswer.the-variants.{Cleared}
+use Rattle.snapshot.specs.declared.reading.ReadReply.{ReadReply}
+use Rattle.snapshot.specs.declared.reading.ReadAnswer.the-variants.{Own, Home}
 use Rattle.desk.specs.declared.begin.BeginAnswer.{BeginAnswer}
 use Rattle.desk.specs.declared.begin.BeginAnswer.the-variants.{Refused as BeginRefused, Start}
-use Rattle.store.specs.declared.settling.SettleAnswer.the-variants.{Ok as Settled}
-use Rattle.store.specs.Read.{readFault, readRefused, readReply}
-use Rattle.store.specs.Write.{copyFault, ownsB, emptySlot, writeFault, writeRefused, writeDone, writeReply}
-use Rattle.store.specs.Finish.{finishFault, finishRefused, finishDone, sealEntries, finishEntries, finishReply}
-use Rattle.store.specs.Settle.{settleFault, settleRefused, settleDone, settleReply, settleEntries, waitsFor, waitsB, goHomeEntries}
-use Rattle.store.specs.Reclaim.{reclaimFault, reclaimRefused, reclaimReply, reclaimEntries, noneLeft, clearEntries}
-use Rattle.store.specs.Recover.{unsoundPlace, tiedBelow, tiesB, recoverFault, firstLog, recoverRefused, recoverReply, recoverEntries}
-use Rattle.history.specs.Desk.{upd, lowest as first-session}
+use Rattle.commit.specs.declared.settling.SettleAnswer.the-variants.{Ok as Settled}
+use Rattle.snapshot.specs.Read.{readFault, readRefused, readReply}
+use Rattle.snapshot.specs.Write.{copyFault, ownsB, emptySlot, writeFault, writeRefused, writeDone, writeReply}
+use Rattle.commit.specs.Finish.{finishFault, finishRefused, finishDone, sealEntries, finishEntries, finishReply}
+use Rattle.commit.specs.Settle.{settleFault, settleRefused, settleDone, settleReply, settleEntries, waitsFor, waitsB, goHomeEntries}
+use Rattle.commit.specs.Reclaim.{reclaimFault, reclaimRefused, reclaimReply, reclaimEntries, noneLeft, clearEntries}
+use Rattle.recovery.specs.Recover.{unsoundPlace, tiedBelow, tiesB, recoverFault, firstLog, recoverRefused, recoverReply, recoverEntries}
+use Rattle.history.specs.Desk.{upd, firstOf}
 use Rattle.claims.specs.Call.{Call, begin, read, write, abandon, finish, publish, settle, reclaim, began, looked, finished, settled, reclaimed}
-use Rattle.claims.specs.Ledger.{note, due, smallest, four}
+use Rattle.history.specs.Ledger.{fourWords}
+use Rattle.claims.specs.Ledger.{note, due, smallest}
 use Rattle.claims.specs.History.{recordOf}
 use Rattle.claims.specs.Recovery.{afterTry, afterTries, afterEnded}
 use Rattle.claims.specs.Rules.{Rules, storeRules}
@@ -56,7 +59,7 @@ use Rattle.claims.proofs.SteadyCalls.{fresh-steady, begin-kept, abandon
 
 -- the checks of calls without an image, and of those with one
 abbrev deskChecks : Desk → ℕ → ℕ
-deskChecks d s = commonFault true true true (ltb s (d .m))
+deskChecks d s = sessionFault true (d .m) s
 
 abbrev imageChecks : List ℕ → Desk → Bool → ℕ → ℕ
 imageChecks img d room s = entryFault img true (d .n) (d .m) room s
@@ -147,7 +150,7 @@ image = emptyImage 2 2
 
 -- image, desk and ledger after the calls; `unfolding after` opens all that is computed here
 after : List Call → World
-unfolding allBelow anyBelow countBelow lowest first commonFault answered shapedB occupiedB homesWrites bodyWrites unsoundB sharedB oldestOf unmarked entryFault openFault openReply copyFault writeRefused waitsFor unsoundPlace tiedBelow tiesB recoverFault firstLog recoverRefused recoverReply recoverEntries note due smallest event entries deskAfter step run upd first-session afterTry afterEnded clearing
+unfolding allBelow anyBelow countBelow lowest first sessionFault answered shapedB occupiedB homesWrites bodyWrites unsoundB sharedB oldestOf unmarked entryFault openFault openReply copyFault writeRefused waitsFor unsoundPlace tiedBelow tiesB recoverFault firstLog recoverRefused recoverReply recoverEntries note due smallest event entries deskAfter step run upd firstOf afterTry afterEnded clearing
 after calls = run trusting calls (opened trusting image)
 
 -- the image that a cut in the call c leaves, and record 0 once recovery has ended
@@ -177,10 +180,10 @@ module _ (R : Rules) (calls : List Call) (opens : R .opens ≡ openReply) (alike
 
   -- demand 3 of record 0 and a cut in the call c
   restores : Demand3 R → (c : Call) (k : ℕ) (sel : ℕ → Bool)
-      → restored R (lost R (after calls) c k sel) ≡ four (recordOf (cutIn R (after calls) c (lost R (after calls) c k sel)) 0)
+      → restored R (lost R (after calls) c k sel) ≡ fourWords (recordOf (cutIn R (after calls) c (lost R (after calls) c k sel)) 0)
   unfolding afterTries
   restores h c k sel =
-      subst (λ (w : World). restored R (lost R w c k sel) ≡ four (recordOf (cutIn R w c (lost R w c k sel)) 0)) (ran .0)
+      subst (λ (w : World). restored R (lost R w c k sel) ≡ fourWords (recordOf (cutIn R w c (lost R w c k sel)) 0)) (ran .0)
       (h image opened-by (during calls c k sel) [] (λ i. 0) .records 0 (omega arith))
 
 -- ---- the runs
@@ -305,10 +308,10 @@ module _ (img : List ℕ) (d : Desk) (len s : ℕ) (h : Steady d) where
 
 -- sealed, with the image as it was
 finish-leaves : Demand3 storesNothing
-    → restored storesNothing (after writing .image) ≡ four (recordOf (note (finished 1 (finishReply (after writing .image) (after writing .desk) 48 1 .answer)) (after writing .ledger) .history) 0)
+    → restored storesNothing (after writing .image) ≡ fourWords (recordOf (note (finished 1 (finishReply (after writing .image) (after writing .desk) 48 1 .answer)) (after writing .ledger) .history) 0)
 unfolding run step event entries deskAfter afterTries
 finish-leaves h =
-    subst (λ (w : World). restored storesNothing (w .image) ≡ four (recordOf (note (finished 1 (finishReply (w .image) (w .desk) 48 1 .answer)) (w .ledger) .history) 0))
+    subst (λ (w : World). restored storesNothing (w .image) ≡ fourWords (recordOf (note (finished 1 (finishReply (w .image) (w .desk) 48 1 .answer)) (w .ledger) .history) 0))
     (ran storesNothing writing refl (search) .0)
     (h image (opened-by storesNothing writing refl (search)) (during (sealing 1 0 5) (begin 1) 0 (λ n. true)) [] (λ i. 0) .records 0 (omega arith))
 
@@ -319,7 +322,7 @@ stores-nothing h =
     let w = after writing in
     let f = same-finish (w .image) (w .desk) 48 1 (ran storesNothing writing refl (search) .1) in
     unlike
-    (subst (λ (r : FinishReply). restored storesNothing (w .image) ≡ four (recordOf (note (finished 1 (r .answer)) (w .ledger) .history) 0)) (f .0) (finish-leaves h))
+    (subst (λ (r : FinishReply). restored storesNothing (w .image) ≡ fourWords (recordOf (note (finished 1 (r .answer)) (w .ledger) .history) 0)) (f .0) (finish-leaves h))
     refl
 
 -- nothing is restored
@@ -344,7 +347,7 @@ one-group h =
     let w = after writing in
     let f = same-finish (w .image) (w .desk) 48 1 (ran oneGroup writing refl (search) .1) in
     unlike
-    (subst₂ (λ (r : FinishReply) (es : List Entry). restored oneGroup (left es) ≡ four (recordOf (cutFinish w 1 (r .answer) (left es)) 0)) (f .0) (f .1)
+    (subst₂ (λ (r : FinishReply) (es : List Entry). restored oneGroup (left es) ≡ fourWords (recordOf (cutFinish w 1 (r .answer) (left es)) 0)) (f .0) (f .1)
     (restores oneGroup writing refl (search) h (finish 48 1) 7 (λ n. eqb n 6)))
     refl
   where
@@ -356,7 +359,7 @@ clears-early : Demand3 clearsEarly → ⊥
 unfolding after
 clears-early h =
     unlike
-    (subst (λ (k : ℕ). restored clearsEarly (left k) ≡ four (recordOf (w .ledger .history) 0))
+    (subst (λ (k : ℕ). restored clearsEarly (left k) ≡ fourWords (recordOf (w .ledger .history) 0))
     (same-reclaim (w .image) (w .desk) 48 0 (ran clearsEarly calls refl (search depth 12) .1))
     (restores clearsEarly calls refl (search depth 12) h (reclaim 48 0) 2 (λ n. true)))
     refl

@@ -26,3 +26,4 @@ pub mod SameDue
 pub mod Demands
 pub mod Refusals
 pub mod Impostors
+pub mod Lists

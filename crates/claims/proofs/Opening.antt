@@ -9,15 +9,17 @@ use native.Mathlib.Omega.{arith}
 use lib.Dec.{eqb}
 use lib.ListN.{getD, replicate, List·getD-eq-default}
 use borrow.Author.Tests.{eqb-true, not-true}
-use Rattle.layout.specs.Below.{anyBelow, any-finds}
-use Rattle.layout.specs.Checks.{unless, answered, first-both, unless-zero, answered-zero}
+use Rattle.layout.specs.Below.{anyBelow}
+use Rattle.layout.proofs.BelowLaws.{any-finds}
+use Rattle.layout.specs.Checks.{unless, answered}
+use Rattle.layout.proofs.ChecksLaws.{first-both, unless-zero, answered-zero}
 use Rattle.layout.specs.Image.{word, recordsOf, sessionsOf, shapedB, homeWords, persistAt, occupiedAt, occupiedB}
 use Rattle.layout.proofs.Says.{test}
 use Rattle.layout.proofs.Shape.{Shaped, says-shaped}
 use Rattle.desk.specs.Desk.{noSession, idleSession}
-use Rattle.store.specs.Open.{openFault, openReply, openRefused, opened as openedReply, freshDesk}
-use Rattle.store.specs.declared.opening.OpenAnswer.the-variants.{Ok as Opened}
-use Rattle.store.specs.declared.opening.OpenReply.{OpenReply}
+use Rattle.recovery.specs.Open.{openFault, openReply, openRefused, opened as openedReply, freshDesk}
+use Rattle.recovery.specs.declared.opening.OpenAnswer.the-variants.{Ok as Opened}
+use Rattle.recovery.specs.declared.opening.OpenReply.{OpenReply}
 use Rattle.history.specs.Log.{Clean}
 use Rattle.history.specs.Layout.{base, view}
 use Rattle.history.specs.Desk.{spot, Session as Txn, idle}

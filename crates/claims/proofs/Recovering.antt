@@ -9,18 +9,20 @@ use native.Mathlib.Nat.{add-zero}
 use native.Mathlib.Omega.{arith}
 use lib.ListN.{getD}
 use borrow.Author.Tests.{le-leb, eq-eqb, ne-eqb}
-use Rattle.layout.specs.Below.{countBelow, lowest, lowest-more}
-use Rattle.layout.specs.Checks.{first, answered-zero}
+use Rattle.layout.specs.Below.{countBelow, lowest}
+use Rattle.layout.proofs.BelowLaws.{lowest-more}
+use Rattle.layout.specs.Checks.{first}
+use Rattle.layout.proofs.ChecksLaws.{answered-zero}
 use Rattle.layout.specs.Image.{recordsOf, sessionsOf, shapedB, slotWord, occupiedAt}
-use Rattle.layout.specs.Log.{unsoundB, countOf, recOf}
-use Rattle.layout.specs.Oldest.{oldestOf}
-use Rattle.layout.proofs.Least.{oldest-is}
+use Rattle.journal.specs.Log.{unsoundB, countOf, recOf}
+use Rattle.journal.specs.Oldest.{oldestOf}
+use Rattle.journal.proofs.Least.{oldest-is}
 use Rattle.layout.proofs.Says.{says-any, says-not}
 use Rattle.layout.proofs.Shape.{Shaped, says-shaped}
-use Rattle.store.specs.Recover.{slotsOf, slotOf, unsoundPlace, tiedBelow, tiesB, recoverFault, firstLog, cleanB, replayEntries, recoverEntries, recoverDone, recoverReply}
-use Rattle.store.specs.declared.recovering.RecoverAnswer.{RecoverAnswer}
-use Rattle.store.specs.declared.recovering.RecoverAnswer.the-variants.{Clean as AnswerClean, Replayed}
-use Rattle.store.specs.declared.recovering.RecoverReply.{RecoverReply}
+use Rattle.recovery.specs.Recover.{slotsOf, logAt, unsoundPlace, tiedBelow, tiesB, recoverFault, firstLog, cleanB, replayEntries, recoverEntries, recoverDone, recoverReply}
+use Rattle.recovery.specs.declared.recovering.RecoverAnswer.{RecoverAnswer}
+use Rattle.recovery.specs.declared.recovering.RecoverAnswer.the-variants.{Clean as AnswerClean, Replayed}
+use Rattle.recovery.specs.declared.recovering.RecoverReply.{RecoverReply}
 use Rattle.history.specs.Log.{State, Occupied, Puts, Final, Clean}
 use Rattle.history.specs.Layout.{Home, body, word, view, Good}
 use Rattle.history.specs.Recover.{oldest, applied, from, recover, Attempt, whole as to-end, broken as cut-off, run, attempt, attempts, steps}
@@ -87,7 +89,7 @@ module _ (N M : ℕ) (img : List ℕ) (w : Whole N M img) (g : Good N M img) whe
   no-ties : tiesB img ≡ false
   unfolding tiesB tiedBelow
   no-ties =
-      says-not (says-any (slotsOf img) (λ p. says-any p (λ q. says-tied (slotOf img p) (slotOf img q))))
+      says-not (says-any (slotsOf img) (λ p. says-any p (λ q. says-tied (logAt img p) (logAt img q))))
       (rw (w .records, w .sessions) (λ t. never-tied (t .0) (t .2 .0) (t .1) (t .2 .1) (t .2 .2)))
 
   -- the log that is taken is the oldest

@@ -6,7 +6,8 @@ use mathlib.Core.List.{List}
 use lib.Dec.{eqb, ltb}
 use lib.ListN.{length}
 use borrow.Author.Tests.{eqb-true}
-use Rattle.layout.specs.Checks.{answered, answered-not}
+use Rattle.layout.specs.Checks.{answered}
+use Rattle.layout.proofs.ChecksLaws.{answered-not}
 use Rattle.layout.specs.Entries.{Entry, made, listed}
 use Rattle.layout.specs.Lay.{layFault, layAnswer, laidImage, emptyImage}
 use Rattle.layout.specs.Told.{Told, refusal, layTold}
@@ -21,26 +22,28 @@ use Rattle.desk.specs.Told.{beginTold, abandonTold, publishTold}
 use Rattle.desk.specs.declared.begin.BeginReply.{BeginReply}
 use Rattle.desk.specs.declared.abandon.AbandonReply.{AbandonReply}
 use Rattle.desk.specs.declared.publish.PublishReply.{PublishReply}
-use Rattle.store.specs.Session.{ownPlace}
-use Rattle.store.specs.Open.{openFault, openRefused, opened, openReply, freshDesk}
-use Rattle.store.specs.Read.{copyShown, startOf, readFault, readRefused, readDone, readReply}
-use Rattle.store.specs.Write.{writeSays, writeFault, writeRefused, writeDone, writeReply}
-use Rattle.store.specs.Finish.{finishFault, finishRefused, finishDone, finishReply}
-use Rattle.store.specs.Settle.{settleFault, settleRefused, settleDone, waitsB, settleReply}
-use Rattle.store.specs.Reclaim.{reclaimFault, reclaimRefused, reclaimDone, noneLeft, heldB, reclaimReply}
-use Rattle.store.specs.Recover.{unsoundPlace, recoverFault, recoverRefused, recoverDone, cleanB, recoverReply}
-use Rattle.store.specs.Told.{openTold, readTold, writeTold, finishTold, settleTold, reclaimTold, recoverTold}
-use Rattle.store.specs.Lists.{Tidy}
-use Rattle.store.specs.declared.opening.OpenReply.{OpenReply}
-use Rattle.store.specs.declared.reading.ReadReply.{ReadReply}
-use Rattle.store.specs.declared.writing.WriteReply.{WriteReply}
-use Rattle.store.specs.declared.writing.WriteAnswer.the-variants.{Refused as WriteRefused}
-use Rattle.store.specs.declared.finishing.FinishReply.{FinishReply}
-use Rattle.store.specs.declared.settling.SettleReply.{SettleReply}
-use Rattle.store.specs.declared.reclaiming.ReclaimReply.{ReclaimReply}
-use Rattle.store.specs.declared.recovering.RecoverReply.{RecoverReply}
-use Rattle.store.specs.declared.recovering.RecoverAnswer.the-variants.{Refused as RecoverRefused}
-use Rattle.store.proofs.Lists.{lists}
+use Rattle.snapshot.specs.Own.{ownPlace}
+use Rattle.recovery.specs.Open.{openFault, openRefused, opened, openReply, freshDesk}
+use Rattle.snapshot.specs.Read.{copyShown, startOf, readFault, readRefused, readDone, readReply}
+use Rattle.snapshot.specs.Write.{writeSays, writeFault, writeRefused, writeDone, writeReply}
+use Rattle.commit.specs.Finish.{finishFault, finishRefused, finishDone, finishReply}
+use Rattle.commit.specs.Settle.{settleFault, settleRefused, settleDone, waitsB, settleReply}
+use Rattle.commit.specs.Reclaim.{reclaimFault, reclaimRefused, reclaimDone, noneLeft, heldB, reclaimReply}
+use Rattle.recovery.specs.Recover.{unsoundPlace, recoverFault, recoverRefused, recoverDone, cleanB, recoverReply}
+use Rattle.recovery.specs.Told.{openTold, recoverTold}
+use Rattle.snapshot.specs.Told.{readTold, writeTold}
+use Rattle.commit.specs.Told.{finishTold, settleTold, reclaimTold}
+use Rattle.layout.specs.Tidy.{Tidy}
+use Rattle.recovery.specs.declared.opening.OpenReply.{OpenReply}
+use Rattle.snapshot.specs.declared.reading.ReadReply.{ReadReply}
+use Rattle.snapshot.specs.declared.writing.WriteReply.{WriteReply}
+use Rattle.snapshot.specs.declared.writing.WriteAnswer.the-variants.{Refused as WriteRefused}
+use Rattle.commit.specs.declared.finishing.FinishReply.{FinishReply}
+use Rattle.commit.specs.declared.settling.SettleReply.{SettleReply}
+use Rattle.commit.specs.declared.reclaiming.ReclaimReply.{ReclaimReply}
+use Rattle.recovery.specs.declared.recovering.RecoverReply.{RecoverReply}
+use Rattle.recovery.specs.declared.recovering.RecoverAnswer.the-variants.{Refused as RecoverRefused}
+use Rattle.claims.proofs.Lists.{lists}
 use Rattle.claims.specs.Refusals.{TurnedAway, StoresNothing, only, Refusals}
 
 -- a call, by what it tells and leaves: its refusals tell their number and value and leave what is to be kept, and past its checks the number is 0

@@ -14,18 +14,18 @@ use Rattle.layout.proofs.Says.{by-test}
 use Rattle.desk.specs.declared.begin.BeginAnswer.the-variants.{Refused as BeginRefused, Start}
 use Rattle.desk.specs.declared.abandon.AbandonAnswer.the-variants.{Refused as AbandonRefused, Ok as Abandoned}
 use Rattle.desk.specs.declared.publish.PublishAnswer.the-variants.{Refused as PublishRefused, End}
-use Rattle.store.specs.declared.reading.ReadAnswer.the-variants.{Refused as ReadRefused, Own, Copy as Copied, Home}
-use Rattle.store.specs.declared.writing.WriteAnswer.the-variants.{Refused as WriteRefused, Taken, Ok as Written}
-use Rattle.store.specs.declared.finishing.FinishAnswer.the-variants.{Refused as FinishRefused, Empty, Sealed}
-use Rattle.store.specs.declared.settling.SettleAnswer.the-variants.{Refused as SettleRefused, Wait, Ok as Settled}
-use Rattle.store.specs.declared.reclaiming.ReclaimAnswer.the-variants.{Refused as ReclaimRefused, None, Held, Cleared}
+use Rattle.snapshot.specs.declared.reading.ReadAnswer.the-variants.{Refused as ReadRefused, Own, Copy as Copied, Home}
+use Rattle.snapshot.specs.declared.writing.WriteAnswer.the-variants.{Refused as WriteRefused, Taken, Ok as Written}
+use Rattle.commit.specs.declared.finishing.FinishAnswer.the-variants.{Refused as FinishRefused, Empty, Sealed}
+use Rattle.commit.specs.declared.settling.SettleAnswer.the-variants.{Refused as SettleRefused, Wait, Ok as Settled}
+use Rattle.commit.specs.declared.reclaiming.ReclaimAnswer.the-variants.{Refused as ReclaimRefused, None, Held, Cleared}
 use Rattle.history.specs.Recover.{better, oldest}
-use Rattle.history.specs.Desk.{Copy, find, Session, idle, active, sealed, published, Desk, lowest, found, holder, before}
+use Rattle.history.specs.Desk.{Copy, find, Session, idle, active, sealed, published, Desk, firstOf, found, holder, before}
 use Rattle.history.specs.History.{Call as Op, begin as op-begin, read as op-read, write as op-write, abandon as op-abandon, finish as op-finish, publish as op-publish, settle as op-settle, reclaim as op-reclaim, Answer, refused, taken, ok, start, own, copied, home, empty, sealed-at, ended-at, wait, nothing, held, cleared, History as Past}
-use Rattle.history.specs.Calls.{limit, begins, shown, held-by, writes-own, wrote as writes, abandons, keeps, refuse, finishes, publishes, waits, settles, clears, reclaims as clearing, place}
+use Rattle.history.specs.Calls.{clockLimit, begins, shown, held-by, writes-own, wrote as writes, abandons, keeps, refuse, finishes, publishes, waits, settles, clears, reclaims as clearing, place}
 use Rattle.history.specs.Ledger.{slots, due-other, due-own, due-read, due as due-accounts}
 use Rattle.history.proofs.Choice.{Best, best}
-use Rattle.history.proofs.Copies.{Mem, Found, find?, Lowest, lowest?}
+use Rattle.history.proofs.Copies.{Mem, Found, find?, Lowest, firstOf?}
 use Rattle.history.proofs.Kept.{Holds}
 use Rattle.history.proofs.Demands.{shown-view}
 use Rattle.claims.specs.Call.{Call, begin, read, write, abandon, finish, publish, settle, reclaim, Event, began, looked, wrote, abandoned, finished, settled, reclaimed}
@@ -141,10 +141,10 @@ module _ (N M : ℕ) (L : Ledger) (s : ℕ) where
 
   -- finish: both have one limit of the clock
   finish-due : (x : Session) → finish-said (dueFinish (L .clock) x) ≡ finishes N desk s x .answer
-  unfolding limit
+  unfolding clockLimit
   finish-due idle = refl
   finish-due (active b q []) = refl
-  finish-due (active b q (c ∷ cs)) = by-test (leb limit (L .clock)) (λ t. rw t) (λ t. rw t)
+  finish-due (active b q (c ∷ cs)) = by-test (leb clockLimit (L .clock)) (λ t. rw t) (λ t. rw t)
   finish-due (sealed n q cs) = refl
   finish-due (published e q cs) = refl
 
@@ -153,7 +153,7 @@ module _ (N M : ℕ) (L : Ledger) (s : ℕ) where
   settle-due idle = refl
   settle-due (active b q cs) = refl
   settle-due (sealed n q cs) = refl
-  settle-due (published e q cs) = go (lowest (λ t. before e (L .session t)) M)
+  settle-due (published e q cs) = go (firstOf (λ t. before e (L .session t)) M)
     where
       go : (o : Option ℕ) → settle-said (dueWait o) ≡ waits desk s cs o .answer
       go none = refl
@@ -221,7 +221,7 @@ module _ (N M : ℕ) (L : Ledger) (s : ℕ) where
           → said (dueOwn s r o (dueOther s r (shownBy b (L .session) (holderOf M (L .session) r)) (viewAt (L .history) b r)))
           ≡ due-own (kept L .history) r b (held-by desk (holder M desk r)) o
       go (some ws) = refl
-      go none = other-due r b (shows s r b q cs refl e) (holder M desk r) (lowest? (λ t. holds r (L .session t)) M)
+      go none = other-due r b (shows s r b q cs refl e) (holder M desk r) (firstOf? (λ t. holds r (L .session t)) M)
   read-due r shows (sealed n q cs) e = refl
   read-due r shows (published n q cs) e = refl
 

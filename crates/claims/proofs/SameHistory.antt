@@ -8,8 +8,8 @@ use lib.Dec.{eqb}
 use Rattle.desk.specs.declared.begin.BeginAnswer.the-variants.{Refused as BeginRefused, Start}
 use Rattle.desk.specs.declared.abandon.AbandonAnswer.the-variants.{Refused as AbandonRefused, Ok as Abandoned}
 use Rattle.desk.specs.declared.publish.PublishAnswer.the-variants.{Refused as PublishRefused, End}
-use Rattle.store.specs.declared.writing.WriteAnswer.the-variants.{Refused as WriteRefused, Taken, Ok as Written}
-use Rattle.store.specs.declared.finishing.FinishAnswer.the-variants.{Refused as FinishRefused, Empty, Sealed}
+use Rattle.snapshot.specs.declared.writing.WriteAnswer.the-variants.{Refused as WriteRefused, Taken, Ok as Written}
+use Rattle.commit.specs.declared.finishing.FinishAnswer.the-variants.{Refused as FinishRefused, Empty, Sealed}
 use Rattle.history.specs.History.{Call as Op, begin, read, write, abandon, finish, publish, settle, reclaim, Answer, Seal, History as Past, last-of, view-of, last, seen-at, ended as ended-newest, feed as feed-past}
 use Rattle.claims.specs.Call.{Event, began, looked, wrote, abandoned, finished, published, settled, reclaimed}
 use Rattle.claims.specs.History.{History, entered, ended, feed, applied, appliedBy, recordOf, viewAt}

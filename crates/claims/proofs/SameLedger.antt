@@ -5,10 +5,10 @@ use native.Mathlib.Decide.{ℕ-discrete}
 use Rattle.desk.specs.declared.begin.BeginAnswer.the-variants.{Refused as BeginRefused, Start}
 use Rattle.desk.specs.declared.abandon.AbandonAnswer.the-variants.{Refused as AbandonRefused, Ok as Abandoned}
 use Rattle.desk.specs.declared.publish.PublishAnswer.the-variants.{Refused as PublishRefused, End}
-use Rattle.store.specs.declared.writing.WriteAnswer.the-variants.{Refused as WriteRefused, Taken, Ok as Written}
-use Rattle.store.specs.declared.finishing.FinishAnswer.the-variants.{Refused as FinishRefused, Empty, Sealed}
-use Rattle.store.specs.declared.settling.SettleAnswer.the-variants.{Refused as SettleRefused, Wait, Ok as Settled}
-use Rattle.store.specs.declared.reclaiming.ReclaimAnswer.the-variants.{Refused as ReclaimRefused, None, Held, Cleared}
+use Rattle.snapshot.specs.declared.writing.WriteAnswer.the-variants.{Refused as WriteRefused, Taken, Ok as Written}
+use Rattle.commit.specs.declared.finishing.FinishAnswer.the-variants.{Refused as FinishRefused, Empty, Sealed}
+use Rattle.commit.specs.declared.settling.SettleAnswer.the-variants.{Refused as SettleRefused, Wait, Ok as Settled}
+use Rattle.commit.specs.declared.reclaiming.ReclaimAnswer.the-variants.{Refused as ReclaimRefused, None, Held, Cleared}
 use Rattle.history.specs.Desk.{upd}
 use Rattle.history.specs.Ledger.{redesk, renumber, Ledger as Accounts, note as note-accounts}
 use Rattle.history.proofs.Copies.{upd-same, upd-other}

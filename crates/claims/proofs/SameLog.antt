@@ -13,11 +13,12 @@ use lib.ListN.{getD, drop}
 use lib.Seq.{getD-take, getD-drop}
 use Rattle.layout.specs.Below.{countBelow}
 use Rattle.layout.specs.Image.{slotWord, persistAt, occupiedAt}
-use Rattle.layout.specs.Log.{Slot, countOf, recOf, wordsOf, homesWrites, denoted as denotedOf, unsoundB, tiedB, sharedB}
-use Rattle.layout.specs.declared.scan.Oldest.{Oldest}
+use Rattle.journal.specs.Log.{Slot, countOf, recOf, wordsOf, denoted as denotedOf, unsoundB, tiedB, sharedB}
+use Rattle.layout.specs.Homes.{homesWrites}
+use Rattle.journal.specs.declared.scan.Oldest.{Oldest}
 use Rattle.layout.proofs.Says.{Says, says-lt, says-eq, says-ne, says-and, says-any, says-not, by-case}
-use Rattle.layout.proofs.Least.{Least}
-use Rattle.layout.proofs.LogFacts.{Sound as SoundSlot, says-unsound}
+use Rattle.journal.proofs.Least.{Least}
+use Rattle.journal.proofs.LogFacts.{Sound as SoundSlot, says-unsound}
 use Rattle.history.specs.Log.{State, busy}
 use Rattle.history.specs.Layout.{base, body, count, rec, word, copy, copies, denoted, view, Sound}
 use Rattle.history.proofs.Choice.{Best}

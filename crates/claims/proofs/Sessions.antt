@@ -20,7 +20,7 @@ use Rattle.desk.specs.declared.state.Phase.the-variants.{Idle, Active, Sealed, 
 use Rattle.desk.specs.declared.state.RecordCopy.{RecordCopy}
 use Rattle.desk.specs.declared.state.Session.{Session}
 use Rattle.desk.proofs.Facts.{CountIn, NumberIn, PlaceIn, SessionIn, Copies}
-use Rattle.store.specs.Session.{ownPlace}
+use Rattle.snapshot.specs.Own.{ownPlace}
 
 -- two numbers are equal, or not
 pub by-same : {P : Type 0} (i j : ℕ) → (i ≡ j → P) → ((i ≡ j → ⊥) → P) → P

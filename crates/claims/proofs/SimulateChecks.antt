@@ -13,7 +13,8 @@ use Rattle.layout.specs.Entries.{Entry}
 use Rattle.desk.specs.Desk.{sessionAt}
 use Rattle.desk.specs.declared.state.Desk.{Desk}
 use Rattle.desk.proofs.Copied.{copies-four}
-use Rattle.store.specs.Session.{imageFault, roomFor}
+use Rattle.desk.specs.Entering.{imageFault}
+use Rattle.layout.specs.Checks.{roomFor}
 use Rattle.history.specs.History.{Answer, refused}
 use Rattle.history.specs.Calls.{Reply, refuse}
 use Rattle.claims.proofs.Abstraction.{abs}

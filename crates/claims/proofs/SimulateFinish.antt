@@ -16,12 +16,12 @@ use Rattle.desk.specs.declared.state.Phase.{Phase}
 use Rattle.desk.specs.declared.state.Phase.the-variants.{Idle, Active, Sealed, Published}
 use Rattle.desk.specs.declared.state.Session.{Session}
 use Rattle.desk.specs.declared.state.Desk.{Desk}
-use Rattle.store.specs.Finish.{finishFault, finishEntries, sealEntries, finishRefused, finishDone, finishReply}
-use Rattle.store.specs.declared.finishing.FinishAnswer.the-variants.{Refused}
-use Rattle.store.specs.declared.finishing.FinishReply.{FinishReply}
+use Rattle.commit.specs.Finish.{finishFault, finishEntries, sealEntries, finishRefused, finishDone, finishReply}
+use Rattle.commit.specs.declared.finishing.FinishAnswer.the-variants.{Refused}
+use Rattle.commit.specs.declared.finishing.FinishReply.{FinishReply}
 use Rattle.history.specs.Desk.{Copy}
 use Rattle.history.specs.History.{finish}
-use Rattle.history.specs.Calls.{reply, finishes, seals-copies, finish-entries, place, limit as clock-limit}
+use Rattle.history.specs.Calls.{reply, finishes, seals-copies, finish-entries, place, clockLimit as clock-limit}
 use Rattle.claims.proofs.Abstraction.{txn-of, copiesOf, abs, abs-put, length-front}
 use Rattle.claims.proofs.Simulation.{finish-said, Sim, Ready}
 use Rattle.claims.proofs.Entering.{session-there}

@@ -20,11 +20,11 @@ use Rattle.desk.specs.declared.state.Phase.the-variants.{Idle, Active, Sealed, 
 use Rattle.desk.specs.declared.state.Session.{Session}
 use Rattle.desk.specs.declared.state.Desk.{Desk}
 use Rattle.desk.proofs.Facts.{Copies}
-use Rattle.store.specs.Session.{ownPlace}
-use Rattle.store.specs.Read.{readFault, shownAt, holderOf, readGives, readRefused, readDone, readReply}
-use Rattle.store.specs.declared.reading.ReadReply.{ReadReply}
-use Rattle.store.specs.declared.reading.ReadAnswer.the-variants.{Copy, Home}
-use Rattle.store.proofs.OwnPlace.{own-found}
+use Rattle.snapshot.specs.Own.{ownPlace}
+use Rattle.snapshot.specs.Read.{readFault, shownAt, holderEntry, readGives, readRefused, readDone, readReply}
+use Rattle.snapshot.specs.declared.reading.ReadReply.{ReadReply}
+use Rattle.snapshot.specs.declared.reading.ReadAnswer.the-variants.{Copy, Home}
+use Rattle.snapshot.proofs.OwnPlace.{own-found}
 use Rattle.history.specs.Desk.{find, holder}
 use Rattle.history.proofs.Copies.{find-fresh}
 use Rattle.history.specs.History.{read, refused, own, copied, home}
@@ -73,7 +73,7 @@ module _ (N M : ℕ) (img : List ℕ) (d : Desk) (s r : ℕ) (h : Ready N M img 
 
   -- a record that the reader does not copy is read by its mark
   by-mark : r < N → (b n : ℕ) → markAt d r ≡ n
-      → ReadSim (gives (holderOf d r) (not (eqb n 0) && shownAt b (holderOf d r .phase)))
+      → ReadSim (gives (holderEntry d r) (not (eqb n 0) && shownAt b (holderEntry d r .phase)))
       (reads-other img (abs d) r (find r (shown b (held-by (abs d) (marked n)))))
   by-mark lr b zero m = at-home lr
   by-mark lr b (suc t) m =

@@ -11,19 +11,20 @@ use lib.Dec.{eqb, leb, ltb}
 use borrow.Author.Tests.{eqb-true, eqb-false, eq-eqb, ne-eqb, leb-true, leb-false, le-ltb, lt-ltb}
 use Rattle.layout.specs.Checks.{first, answered}
 use Rattle.layout.specs.Image.{slotAt, persistAt}
-use Rattle.layout.specs.Oldest.{oldestOf}
-use Rattle.layout.specs.declared.scan.Oldest.{Oldest}
-use Rattle.layout.proofs.Least.{oldest-is}
+use Rattle.journal.specs.Oldest.{oldestOf}
+use Rattle.journal.specs.declared.scan.Oldest.{Oldest}
+use Rattle.journal.proofs.Least.{oldest-is}
 use Rattle.layout.proofs.Says.{by-test}
 use Rattle.desk.specs.Desk.{sessionAt, isSealed, isPublished}
 use Rattle.desk.specs.declared.state.Phase.{Phase}
 use Rattle.desk.specs.declared.state.Phase.the-variants.{Idle, Active, Sealed, Published}
 use Rattle.desk.specs.declared.state.Session.{Session}
 use Rattle.desk.specs.declared.state.Desk.{Desk}
-use Rattle.store.specs.Session.{imageFault, roomFor}
-use Rattle.store.specs.Reclaim.{reclaimFault, reclaimEntries, inUse, settledNumber, chosen, noneLeft, heldB, clearEntries, reclaimRefused, reclaimDone, reclaimReply}
-use Rattle.store.specs.declared.reclaiming.ReclaimAnswer.the-variants.{Refused}
-use Rattle.store.specs.declared.reclaiming.ReclaimReply.{ReclaimReply}
+use Rattle.desk.specs.Entering.{imageFault}
+use Rattle.layout.specs.Checks.{roomFor}
+use Rattle.commit.specs.Reclaim.{reclaimFault, reclaimEntries, inUse, settledNumber, chosen, noneLeft, heldB, clearEntries, reclaimRefused, reclaimDone, reclaimReply}
+use Rattle.commit.specs.declared.reclaiming.ReclaimAnswer.the-variants.{Refused}
+use Rattle.commit.specs.declared.reclaiming.ReclaimReply.{ReclaimReply}
 use Rattle.history.specs.Log.{State}
 use Rattle.history.specs.Layout.{view}
 use Rattle.history.specs.Recover.{oldest}

@@ -10,7 +10,8 @@ use native.Mathlib.Numerals.{add-one}
 use native.Mathlib.Omega.{arith}
 use lib.Dec.{T as So}
 use borrow.Author.Tests.{lt-ltb}
-use Rattle.layout.specs.Below.{lowest, lowest-more, lowest-finds}
+use Rattle.layout.specs.Below.{lowest}
+use Rattle.layout.proofs.BelowLaws.{lowest-more, lowest-finds}
 use Rattle.layout.specs.Checks.{unless, first, answered}
 use Rattle.layout.specs.Entries.{fence, stores}
 use Rattle.desk.specs.Desk.{sessionAt, isIdle, isPublished, idleSession, unmarked}
@@ -18,13 +19,13 @@ use Rattle.desk.specs.declared.state.Phase.{Phase}
 use Rattle.desk.specs.declared.state.Phase.the-variants.{Idle, Active, Sealed, Published}
 use Rattle.desk.specs.declared.state.Session.{Session}
 use Rattle.desk.specs.declared.state.Desk.{Desk}
-use Rattle.store.specs.Settle.{settleFault, settleEntries, endOf, startsBelow, waitsFor, waitsB, goHomeEntries, settleRefused, settleDone, settleReply}
-use Rattle.store.specs.declared.settling.SettleAnswer.the-variants.{Refused}
-use Rattle.store.specs.declared.settling.SettleReply.{SettleReply}
-use Rattle.history.specs.Desk.{Copy, before, lowest as first-below}
+use Rattle.commit.specs.Settle.{settleFault, settleEntries, endOf, startsBelow, waitsFor, waitsB, goHomeEntries, settleRefused, settleDone, settleReply}
+use Rattle.commit.specs.declared.settling.SettleAnswer.the-variants.{Refused}
+use Rattle.commit.specs.declared.settling.SettleReply.{SettleReply}
+use Rattle.history.specs.Desk.{Copy, before, firstOf}
 use Rattle.history.specs.History.{settle, wait}
 use Rattle.history.specs.Calls.{reply, settles, waits}
-use Rattle.history.proofs.Copies.{Lowest, lowest?}
+use Rattle.history.proofs.Copies.{Lowest, firstOf?}
 use Rattle.claims.proofs.Abstraction.{txn-of, copiesOf, pack, abs, abs-put}
 use Rattle.claims.proofs.Simulation.{settle-said, Sim, Ready}
 use Rattle.claims.proofs.Entering.{session-there, told as says-only}
@@ -54,8 +55,8 @@ none-lowest p (suc n) h = rw add-one at (lowest-more p n (none-lowest p n (λ t 
 
 -- the two searches agree, where nothing from m to n is looked for
 lowest-agrees : (p f : ℕ → Bool) (m n : ℕ) → ((t : ℕ) → p t ≡ f t) → m ≤ n → ((t : ℕ) → m ≤ t → t < n → p t ≡ false)
-    → Agrees n (lowest n p) (first-below f m)
-lowest-agrees p f m n same le idle = go (first-below f m) (lowest? f m)
+    → Agrees n (lowest n p) (firstOf f m)
+lowest-agrees p f m n same le idle = go (firstOf f m) (firstOf? f m)
   where
     go : (o : Option ℕ) → Lowest f m o → Agrees n (lowest n p) o
     go none c = none-lowest p n (λ t l. at t l (decLt t m))
@@ -104,7 +105,7 @@ module _ (N M : ℕ) (img : List ℕ) (d : Desk) (s : ℕ) (h : Ready N M img d)
   e = sessionAt d s
 
   -- the session waited for is one below M
-  waits-agree : (end : ℕ) → Agrees 16 (waitsFor d end) (first-below (λ t. before end (pack (sessionAt d t))) M)
+  waits-agree : (end : ℕ) → Agrees 16 (waitsFor d end) (firstOf (λ t. before end (pack (sessionAt d t))) M)
   unfolding waitsFor
   waits-agree end =
       lowest-agrees _ _ M 16 (λ t. starts-before end (sessionAt d t .phase) (sessionAt d t .slot) (copiesOf (sessionAt d t)))
@@ -128,7 +129,7 @@ module _ (N M : ℕ) (img : List ℕ) (d : Desk) (s : ℕ) (h : Ready N M img d)
   by-phase Idle z = does-refuse d (settle-call d s) 5
   by-phase (Active b) z = does-refuse d (settle-call d s) 5
   by-phase (Sealed n) z = does-refuse d (settle-call d s) 5
-  by-phase (Published end) z = settled (first-below (λ t. before end (pack (sessionAt d t))) M) (rw z (waits-agree end))
+  by-phase (Published end) z = settled (firstOf (λ t. before end (pack (sessionAt d t))) M) (rw z (waits-agree end))
 
 -- settle, past checks 1, 2 and 3
 pub settle-sim : (N M : ℕ) (img : List ℕ) (d : Desk) (len s : ℕ) → Ready N M img d → 48 ≤ len

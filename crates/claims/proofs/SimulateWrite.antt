@@ -18,10 +18,10 @@ use Rattle.desk.specs.declared.state.Phase.the-variants.{Idle, Active, Sealed, 
 use Rattle.desk.specs.declared.state.Session.{Session}
 use Rattle.desk.specs.declared.state.Desk.{Desk}
 use Rattle.desk.proofs.Copied.{copies-four}
-use Rattle.store.specs.Session.{ownPlace}
-use Rattle.store.specs.Write.{slotEmpty, emptySlot, copyFault, ownsB, writeFault, writeSays, writeRefused, overwritten, extended, reserved, copied, writeDone, writeReply}
-use Rattle.store.specs.declared.writing.WriteReply.{WriteReply}
-use Rattle.store.specs.declared.writing.WriteAnswer.the-variants.{Ok}
+use Rattle.snapshot.specs.Own.{ownPlace}
+use Rattle.snapshot.specs.Write.{slotEmpty, emptySlot, copyFault, ownsB, writeFault, writeSays, writeRefused, overwritten, extended, reserved, copied, writeDone, writeReply}
+use Rattle.snapshot.specs.declared.writing.WriteReply.{WriteReply}
+use Rattle.snapshot.specs.declared.writing.WriteAnswer.the-variants.{Ok}
 use Rattle.history.specs.Desk.{Copy, find, holder}
 use Rattle.history.specs.Layout.{view}
 use Rattle.history.specs.History.{write, refused, taken, ok}

@@ -6,7 +6,7 @@ use mathlib.Core.List.{List}
 use lib.Dec.{ltb}
 use lib.ListN.{length}
 use borrow.Author.Tests.{eq-eqb}
-use Rattle.layout.specs.Checks.{unless, first, commonFault}
+use Rattle.layout.specs.Checks.{unless, first}
 use Rattle.layout.specs.Entries.{Entry}
 use Rattle.layout.specs.Image.{recordsOf, sessionsOf, shapedB}
 use Rattle.desk.specs.Desk.{sessionAt}
@@ -18,17 +18,17 @@ use Rattle.desk.specs.declared.abandon.AbandonAnswer.the-variants.{Refused as A
 use Rattle.desk.specs.declared.publish.PublishAnswer.{PublishAnswer}
 use Rattle.desk.specs.declared.publish.PublishAnswer.the-variants.{Refused as PublishRefused, End}
 use Rattle.desk.proofs.Facts.{Coherent, says-coherent}
-use Rattle.store.specs.Session.{entryFault, imageFault}
-use Rattle.store.specs.declared.reading.ReadAnswer.{ReadAnswer}
-use Rattle.store.specs.declared.reading.ReadAnswer.the-variants.{Refused as ReadRefused, Own, Copy, Home}
-use Rattle.store.specs.declared.writing.WriteAnswer.{WriteAnswer}
-use Rattle.store.specs.declared.writing.WriteAnswer.the-variants.{Refused as WriteRefused, Taken, Ok as Written}
-use Rattle.store.specs.declared.finishing.FinishAnswer.{FinishAnswer}
-use Rattle.store.specs.declared.finishing.FinishAnswer.the-variants.{Refused as FinishRefused, Empty, Sealed}
-use Rattle.store.specs.declared.settling.SettleAnswer.{SettleAnswer}
-use Rattle.store.specs.declared.settling.SettleAnswer.the-variants.{Refused as SettleRefused, Wait, Ok as Settled}
-use Rattle.store.specs.declared.reclaiming.ReclaimAnswer.{ReclaimAnswer}
-use Rattle.store.specs.declared.reclaiming.ReclaimAnswer.the-variants.{Refused as ReclaimRefused, None, Held, Cleared}
+use Rattle.desk.specs.Entering.{entryFault, imageFault}
+use Rattle.snapshot.specs.declared.reading.ReadAnswer.{ReadAnswer}
+use Rattle.snapshot.specs.declared.reading.ReadAnswer.the-variants.{Refused as ReadRefused, Own, Copy, Home}
+use Rattle.snapshot.specs.declared.writing.WriteAnswer.{WriteAnswer}
+use Rattle.snapshot.specs.declared.writing.WriteAnswer.the-variants.{Refused as WriteRefused, Taken, Ok as Written}
+use Rattle.commit.specs.declared.finishing.FinishAnswer.{FinishAnswer}
+use Rattle.commit.specs.declared.finishing.FinishAnswer.the-variants.{Refused as FinishRefused, Empty, Sealed}
+use Rattle.commit.specs.declared.settling.SettleAnswer.{SettleAnswer}
+use Rattle.commit.specs.declared.settling.SettleAnswer.the-variants.{Refused as SettleRefused, Wait, Ok as Settled}
+use Rattle.commit.specs.declared.reclaiming.ReclaimAnswer.{ReclaimAnswer}
+use Rattle.commit.specs.declared.reclaiming.ReclaimAnswer.the-variants.{Refused as ReclaimRefused, None, Held, Cleared}
 use Rattle.history.specs.History.{Answer, refused, taken, ok, start, own, copied, home, empty, sealed-at, ended-at, wait, nothing, held, cleared}
 use Rattle.history.specs.Calls.{Reply}
 use Rattle.claims.proofs.Abstraction.{abs}
@@ -93,6 +93,6 @@ pub record Ready (N M : ℕ) (img : List ℕ) (d : Desk) : Type 0 where
 
 -- there the checks 1 and 2 pass
 pub ready-fault : (N M : ℕ) (img : List ℕ) (d : Desk) (room : Bool) (s : ℕ) → Ready N M img d → imageFault img d room s ≡ first (unless room 3) (unless (ltb s (d .m)) 4)
-unfolding entryFault commonFault first
+unfolding entryFault first
 ready-fault N M img d room s h =
     rw (h .shaped, says-coherent d .no (h .coherent), eq-eqb (d .n) (recordsOf img) (h .n-same ∙ sym (h .records)), eq-eqb (d .m) (sessionsOf img) (h .m-same ∙ sym (h .sessions)))

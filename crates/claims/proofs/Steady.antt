@@ -11,8 +11,10 @@ use lib.Dec.{leb, ltb, eqb}
 use lib.ListN.{getD, set, length, length-set}
 use lib.Seq.{getD-set-same, getD-set-other, set-getD}
 use borrow.Author.Tests.{eqb-true}
-use Rattle.layout.specs.Below.{countBelow, count-most}
-use Rattle.layout.specs.Checks.{unless, first, first-both, unless-zero}
+use Rattle.layout.specs.Below.{countBelow}
+use Rattle.layout.proofs.BelowLaws.{count-most}
+use Rattle.layout.specs.Checks.{unless, first}
+use Rattle.layout.proofs.ChecksLaws.{first-both, unless-zero}
 use Rattle.layout.proofs.Says.{says-lt, says-le, says-or, by-test, by-case}
 use Rattle.desk.specs.Desk.{noCopy, noSession, sessionAt, markAt, isIdle, isActive, isSealed, idleSession, withPhase, putSession, unmarked, dropped}
 use Rattle.desk.specs.Coherent.{limit, sealedAt}
@@ -22,9 +24,9 @@ use Rattle.desk.specs.declared.state.Session.{Session}
 use Rattle.desk.specs.declared.state.Desk.{Desk}
 use Rattle.desk.proofs.Facts.{CountIn, NumberIn, SessionIn, Copies, MarkIs, Coherent}
 use Rattle.desk.proofs.Copied.{copies-four, copies-differ}
-use Rattle.store.specs.Session.{ownPlace}
-use Rattle.store.specs.Write.{emptySlot, copyFault, overwritten, reserved, copied}
-use Rattle.store.proofs.WriteLaws.{copy-room}
+use Rattle.snapshot.specs.Own.{ownPlace}
+use Rattle.snapshot.specs.Write.{emptySlot, copyFault, overwritten, reserved, copied}
+use Rattle.snapshot.proofs.WriteLaws.{copy-room}
 use Rattle.claims.proofs.Sessions.{by-same, at-set, phase-in, session-later, idle-in, idle-none, written, Room, own-room, next-room, written-new, written-old, written-in}
 
 -- the arrays have their lengths

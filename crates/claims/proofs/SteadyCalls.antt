@@ -8,8 +8,9 @@ use native.Mathlib.Omega.{arith}
 use lib.Dec.{ltb, eqb}
 use lib.ListN.{getD-replicate}
 use borrow.Author.Tests.{ltb-true, eqb-true, eqb-false}
-use Rattle.layout.specs.Below.{count-most}
-use Rattle.layout.specs.Checks.{unless, first, answered, first-both, unless-zero, common-most}
+use Rattle.layout.proofs.BelowLaws.{count-most}
+use Rattle.layout.specs.Checks.{unless, first, answered}
+use Rattle.layout.proofs.ChecksLaws.{first-both, unless-zero}
 use Rattle.layout.specs.Image.{recordsOf, sessionsOf, shapedB}
 use Rattle.layout.proofs.Says.{by-test}
 use Rattle.desk.specs.Desk.{noSession, sessionAt, isActive, idleSession, unmarked}
@@ -20,15 +21,17 @@ use Rattle.desk.specs.Publish.{publishFault, publishRefused, published, publish
 use Rattle.desk.specs.declared.state.Phase.the-variants.{Active, Sealed, Published}
 use Rattle.desk.specs.declared.state.Desk.{Desk}
 use Rattle.desk.proofs.Copied.{copies-four}
-use Rattle.desk.proofs.Entered.{entryFault, entered}
-use Rattle.store.specs.Session.{entryFault as imageEntryFault, imageFault, roomFor, ownPlace}
-use Rattle.store.specs.Open.{freshDesk}
-use Rattle.store.specs.Read.{startOf, copyShown, readFault, readRefused, readDone, readReply}
-use Rattle.store.specs.Write.{ownsB, writeFault, writeRefused, writeDone, writeReply}
-use Rattle.store.specs.Finish.{finishFault, finishRefused, finishDone, finishReply}
-use Rattle.store.specs.Settle.{settleFault, settleRefused, settleDone, waitsB, settleReply}
-use Rattle.store.specs.Reclaim.{reclaimFault, reclaimRefused, reclaimDone, noneLeft, heldB, reclaimReply}
-use Rattle.store.proofs.Entered.{entered as image-entered}
+use Rattle.desk.proofs.DeskEntered.{desk-entered}
+use Rattle.desk.specs.Entering.{deskFault, imageFault}
+use Rattle.layout.specs.Checks.{roomFor}
+use Rattle.snapshot.specs.Own.{ownPlace}
+use Rattle.recovery.specs.Open.{freshDesk}
+use Rattle.snapshot.specs.Read.{startOf, copyShown, readFault, readRefused, readDone, readReply}
+use Rattle.snapshot.specs.Write.{ownsB, writeFault, writeRefused, writeDone, writeReply}
+use Rattle.commit.specs.Finish.{finishFault, finishRefused, finishDone, finishReply}
+use Rattle.commit.specs.Settle.{settleFault, settleRefused, settleDone, waitsB, settleReply}
+use Rattle.commit.specs.Reclaim.{reclaimFault, reclaimRefused, reclaimDone, noneLeft, heldB, reclaimReply}
+use Rattle.desk.proofs.Entered.{entered as image-entered, entry-most}
 use Rattle.claims.proofs.Sessions.{idle-in, idle-none, sealed-some}
 use Rattle.claims.proofs.Steady.{Steady, Kept, adds, phase-kept, drop-kept, overwrite-kept, copy-kept}
 
@@ -72,7 +75,7 @@ pub begin-kept : (d : Desk) (s : ℕ) → Steady d → Kept d (beginReply d s .d
 unfolding beginReply beginFault
 begin-kept d s h =
     by-answer (λ r. Kept d (r .desk)) (beginFault d s) (beginRefused d) (begun d s) (unchanged d h)
-    (λ z. let e = entered d s (first-both (entryFault d s) _ z .0) in
+    (λ z. let e = desk-entered d s (first-both (deskFault d s) _ z .0) in
     phase-kept d s h (e .below-m) (Active (d .clock)) (d .clock) (omega arith) (inl (omega arith)) (copies-four d (h .coherent) s (e .below-16)) (h .coherent .clock-low, omega arith))
 
 -- abandon drops the session's marks and copies
@@ -80,15 +83,15 @@ pub abandon-kept : (d : Desk) (s : ℕ) → Steady d → Kept d (abandonReply d 
 unfolding abandonReply abandonFault
 abandon-kept d s h =
     by-answer (λ r. Kept d (r .desk)) (abandonFault d s) (abandonRefused d) (abandoned d s) (unchanged d h)
-    (λ z. drop-kept d s h (entered d s (first-both (entryFault d s) _ z .0) .below-m))
+    (λ z. drop-kept d s h (desk-entered d s (first-both (deskFault d s) _ z .0) .below-m))
 
 -- publish puts the session into another phase; the clock moves on by one, and one session less is sealed
 pub publish-kept : (d : Desk) (s : ℕ) → Steady d → Kept d (publishReply d s .desk)
 unfolding publishReply publishFault
 publish-kept d s h =
     by-answer (λ r. Kept d (r .desk)) (publishFault d s) (publishRefused d) (published d s) (unchanged d h)
-    (λ z. let f = first-both (entryFault d s) _ z in
-    let e = entered d s (f .0) in
+    (λ z. let f = first-both (deskFault d s) _ z in
+    let e = desk-entered d s (f .0) in
     let sealed = unless-zero (sealedAt d s) 5 (f .1) in
     let a = ap adds sealed in
     phase-kept d s h (e .below-m) (Published (d .clock + 1)) (d .clock + 1) (omega arith) (inl (omega arith))
@@ -103,10 +106,9 @@ first-passed (suc a) b k l q = absurd (omega arith)
 
 -- refused by 7, a write has passed the checks that calls share
 taken-entered : (img : List ℕ) (d : Desk) (s r : ℕ) → writeFault img d s r ≡ 7 → imageFault img d true s ≡ 0
-unfolding writeFault imageEntryFault
+unfolding writeFault
 taken-entered img d s r q =
-    let most = common-most (shapedB img) (coherentB d && eqb (d .n) (recordsOf img) && eqb (d .m) (sessionsOf img)) true (ltb s (d .m)) in
-    first-passed (imageFault img d true s) _ 7 (omega arith) q
+    first-passed (imageFault img d true s) _ 7 (omega (arith, entry-most img d true s)) q
 
 -- write overwrites an own copy or takes one more; refused by 7 it drops the session's marks and copies
 pub write-kept : (img : List ℕ) (d : Desk) (s r : ℕ) (ws : List ℕ) → Steady d → Kept d (writeReply img d s r ws .desk)

@@ -6,9 +6,9 @@ use mathlib.Core.Bool.{Bool, true, false, cond}
 use mathlib.Core.Option.{none}
 use mathlib.Core.List.{List, [], _∷_, _++_}
 use native.Mathlib.Omega.{arith}
-use Rattle.store.specs.Finish.{finishReply}
-use Rattle.store.specs.declared.finishing.FinishAnswer.{FinishAnswer}
-use Rattle.store.specs.declared.finishing.FinishAnswer.the-variants.{Refused as FinishRefused, Empty, Sealed}
+use Rattle.commit.specs.Finish.{finishReply}
+use Rattle.commit.specs.declared.finishing.FinishAnswer.{FinishAnswer}
+use Rattle.commit.specs.declared.finishing.FinishAnswer.the-variants.{Refused as FinishRefused, Empty, Sealed}
 use Rattle.history.specs.Desk.{Copy}
 use Rattle.history.specs.History.{Seal, seen-at}
 use Rattle.history.specs.Run.{World as Abstract, after}

@@ -4,11 +4,11 @@ use mathlib.Core.List.{List}
 use Rattle.desk.specs.declared.begin.BeginAnswer.{BeginAnswer}
 use Rattle.desk.specs.declared.abandon.AbandonAnswer.{AbandonAnswer}
 use Rattle.desk.specs.declared.publish.PublishAnswer.{PublishAnswer}
-use Rattle.store.specs.declared.reading.ReadAnswer.{ReadAnswer}
-use Rattle.store.specs.declared.writing.WriteAnswer.{WriteAnswer}
-use Rattle.store.specs.declared.finishing.FinishAnswer.{FinishAnswer}
-use Rattle.store.specs.declared.settling.SettleAnswer.{SettleAnswer}
-use Rattle.store.specs.declared.reclaiming.ReclaimAnswer.{ReclaimAnswer}
+use Rattle.snapshot.specs.declared.reading.ReadAnswer.{ReadAnswer}
+use Rattle.snapshot.specs.declared.writing.WriteAnswer.{WriteAnswer}
+use Rattle.commit.specs.declared.finishing.FinishAnswer.{FinishAnswer}
+use Rattle.commit.specs.declared.settling.SettleAnswer.{SettleAnswer}
+use Rattle.commit.specs.declared.reclaiming.ReclaimAnswer.{ReclaimAnswer}
 
 -- a call with whatever a caller may pass: any session, record and words, and any length of the trace, which finish, settle and reclaim take first
 pub data Call : Type 0 where

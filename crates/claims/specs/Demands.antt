@@ -8,15 +8,16 @@ use Rattle.layout.specs.Below.{countBelow}
 use Rattle.layout.specs.Crash.{crashed}
 use Rattle.layout.specs.Image.{recordsOf, sessionsOf, homeWords, placeOf, persistAt, occupiedAt}
 use Rattle.desk.specs.Desk.{sessionAt}
-use Rattle.store.specs.declared.opening.OpenAnswer.the-variants.{Ok as Opened}
-use Rattle.store.specs.declared.reading.ReadAnswer.{ReadAnswer}
-use Rattle.store.specs.declared.reading.ReadAnswer.the-variants.{Refused as ReadRefused, Own, Copy, Home}
-use Rattle.store.specs.declared.finishing.FinishAnswer.{FinishAnswer}
-use Rattle.store.specs.declared.finishing.FinishAnswer.the-variants.{Refused as FinishRefused, Empty, Sealed}
-use Rattle.store.specs.declared.recovering.RecoverAnswer.the-variants.{Clean}
+use Rattle.recovery.specs.declared.opening.OpenAnswer.the-variants.{Ok as Opened}
+use Rattle.snapshot.specs.declared.reading.ReadAnswer.{ReadAnswer}
+use Rattle.snapshot.specs.declared.reading.ReadAnswer.the-variants.{Refused as ReadRefused, Own, Copy, Home}
+use Rattle.commit.specs.declared.finishing.FinishAnswer.{FinishAnswer}
+use Rattle.commit.specs.declared.finishing.FinishAnswer.the-variants.{Refused as FinishRefused, Empty, Sealed}
+use Rattle.recovery.specs.declared.recovering.RecoverAnswer.the-variants.{Clean}
 use Rattle.claims.specs.Call.{Call, begin, read, write, abandon, finish, publish, settle, reclaim}
 use Rattle.claims.specs.History.{History, sealing, recordOf, viewAt}
-use Rattle.claims.specs.Ledger.{four, due}
+use Rattle.claims.specs.Ledger.{due}
+use Rattle.history.specs.Ledger.{fourWords}
 use Rattle.claims.specs.Rules.{Rules}
 use Rattle.claims.specs.Run.{World, opened, event, entries, run}
 use Rattle.claims.specs.Recovery.{Try, afterTries, afterEnded}
@@ -75,7 +76,7 @@ abbrev pub ReadRight : History → ℕ → ℕ → ReadAnswer → List ℕ → T
 ReadRight h start r (ReadRefused k) ws = Unit {0}
 ReadRight h start r Own ws = Unit {0}
 ReadRight h start r Copy ws = ws ≡ viewAt h start r
-ReadRight h start r Home ws = ws ≡ four (viewAt h start r)
+ReadRight h start r Home ws = ws ≡ fourWords (viewAt h start r)
 
 -- calls of recover after the cut: some that are cut themselves or come to their end, then as many that come to their end as there are occupied
 -- slots, the i-th with a trace of 48 + x i words
@@ -90,7 +91,7 @@ module _ (R : Rules) (img : List ℕ) (cut : Cut) (tries : List Try) (x : ℕ �
     -- recovery ends clean
     pub clean : (len : ℕ) → 48 ≤ len → R .recover recovered len .answer ≡ Clean
     -- every record equals the book's
-    pub records : (r : ℕ) → r < recordsOf img → homeWords recovered r ≡ four (recordOf (cutHistory R img cut) r)
+    pub records : (r : ℕ) → r < recordsOf img → homeWords recovered r ≡ fourWords (recordOf (cutHistory R img cut) r)
     -- every copy or home read along the list gave the book's words
     pub reads : (earlier later : List Call) (s r : ℕ) → before cut ≡ earlier ++ (read s r ∷ later)
         → ReadRight (cutHistory R img cut) (run R earlier (opened R img) .ledger .history .start s) r

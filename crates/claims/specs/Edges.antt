@@ -15,19 +15,21 @@ use Rattle.desk.specs.declared.state.Phase.the-variants.{Active, Published}
 use Rattle.desk.specs.declared.state.RecordCopy.{RecordCopy}
 use Rattle.desk.specs.declared.state.Session.{Session}
 use Rattle.desk.specs.declared.state.Desk.{Desk}
-use Rattle.store.specs.Open.{openReply, freshDesk}
-use Rattle.store.specs.Read.{readReply}
-use Rattle.store.specs.Write.{writeReply}
-use Rattle.store.specs.Finish.{finishReply, finishEntries}
-use Rattle.store.specs.Reclaim.{reclaimReply}
-use Rattle.store.specs.Recover.{recoverReply}
-use Rattle.store.specs.Told.{openTold, writeTold, finishTold, recoverTold}
-use Rattle.store.specs.declared.reading.ReadReply.{ReadReply}
-use Rattle.store.specs.declared.reading.ReadAnswer.the-variants.{Copy, Home}
-use Rattle.store.specs.declared.writing.WriteAnswer.the-variants.{Ok}
-use Rattle.store.specs.declared.finishing.FinishAnswer.the-variants.{Sealed as SealedAt}
-use Rattle.store.specs.declared.reclaiming.ReclaimAnswer.the-variants.{Held, Cleared}
-use Rattle.store.specs.declared.recovering.RecoverAnswer.the-variants.{Clean, Replayed}
+use Rattle.recovery.specs.Open.{openReply, freshDesk}
+use Rattle.snapshot.specs.Read.{readReply}
+use Rattle.snapshot.specs.Write.{writeReply}
+use Rattle.commit.specs.Finish.{finishReply, finishEntries}
+use Rattle.commit.specs.Reclaim.{reclaimReply}
+use Rattle.recovery.specs.Recover.{recoverReply}
+use Rattle.recovery.specs.Told.{openTold, recoverTold}
+use Rattle.snapshot.specs.Told.{writeTold}
+use Rattle.commit.specs.Told.{finishTold}
+use Rattle.snapshot.specs.declared.reading.ReadReply.{ReadReply}
+use Rattle.snapshot.specs.declared.reading.ReadAnswer.the-variants.{Copy, Home}
+use Rattle.snapshot.specs.declared.writing.WriteAnswer.the-variants.{Ok}
+use Rattle.commit.specs.declared.finishing.FinishAnswer.the-variants.{Sealed as SealedAt}
+use Rattle.commit.specs.declared.reclaiming.ReclaimAnswer.the-variants.{Held, Cleared}
+use Rattle.recovery.specs.declared.recovering.RecoverAnswer.the-variants.{Clean, Replayed}
 
 -- a store of 8 records and 2 sessions
 abbrev pub image : List ℕ
@@ -61,22 +63,22 @@ deskOf clock marks x y =
       sessions = x ∷ y ∷ replicate 14 idleSession;
     }
 
-abbrev pub one : List ℕ
-one = 1 ∷ 0 ∷ 0 ∷ 0 ∷ []
+abbrev pub oneMark : List ℕ
+oneMark = 1 ∷ 0 ∷ 0 ∷ 0 ∷ []
 
-abbrev pub four : List ℕ
-four = 1 ∷ 1 ∷ 1 ∷ 1 ∷ []
+abbrev pub fourMarks : List ℕ
+fourMarks = 1 ∷ 1 ∷ 1 ∷ 1 ∷ []
 
-abbrev pub none : List ℕ
-none = replicate 4 0
+abbrev pub noMarks : List ℕ
+noMarks = replicate 4 0
 
 -- a reader with this start, of record 0, which session 0 has published with this end
 abbrev pub readAt : ℕ → ℕ → ReadReply
-readAt start end = readReply image (deskOf 6 one (oneCopy (Published end)) (noCopies (Active start))) 1 0
+readAt start end = readReply image (deskOf 6 oneMark (oneCopy (Published end)) (noCopies (Active start))) 1 0
 
 -- session 0 finishes one copy at this clock, and power fails once the first k entries have arrived
 abbrev pub finishing : ℕ → Desk
-finishing clock = deskOf clock one (oneCopy (Active 1)) idleSession
+finishing clock = deskOf clock oneMark (oneCopy (Active 1)) idleSession
 
 abbrev pub cutAfter : ℕ → List ℕ
 cutAfter k = crashed k (λ n. true) (finishEntries image (finishing 3) 48 0) image
@@ -99,8 +101,8 @@ pub record Edges : Type 0 where
   pub d-answer : readAt 5 6 .answer ≡ Home
   pub d-words : readAt 5 6 .words ≡ replicate 4 0
   -- E: four copies, write to a fifth record: 8; F: write again to one of the four: accepted
-  pub e : writeTold (writeReply image (deskOf 1 four fourCopies idleSession) 0 4 (replicate 4 1) .answer) ≡ refusal 8
-  pub f : writeReply image (deskOf 1 four fourCopies idleSession) 0 3 (replicate 4 1) .answer ≡ Ok
+  pub e : writeTold (writeReply image (deskOf 1 fourMarks fourCopies idleSession) 0 4 (replicate 4 1) .answer) ≡ refusal 8
+  pub f : writeReply image (deskOf 1 fourMarks fourCopies idleSession) 0 3 (replicate 4 1) .answer ≡ Ok
   -- G: clock L - 1 seals; at L, 10
   pub g-seals : finishReply image (finishing (limit - 1)) 48 0 .answer ≡ SealedAt (limit - 1)
   pub g-refused : finishTold (finishReply image (finishing limit) 48 0 .answer) ≡ refusal 10

@@ -10,10 +10,10 @@ use Rattle.desk.specs.declared.abandon.AbandonAnswer.{AbandonAnswer}
 use Rattle.desk.specs.declared.abandon.AbandonAnswer.the-variants.{Refused as AbandonRefused, Ok as Abandoned}
 use Rattle.desk.specs.declared.publish.PublishAnswer.{PublishAnswer}
 use Rattle.desk.specs.declared.publish.PublishAnswer.the-variants.{Refused as PublishRefused, End}
-use Rattle.store.specs.declared.writing.WriteAnswer.{WriteAnswer}
-use Rattle.store.specs.declared.writing.WriteAnswer.the-variants.{Refused as WriteRefused, Taken, Ok as Written}
-use Rattle.store.specs.declared.finishing.FinishAnswer.{FinishAnswer}
-use Rattle.store.specs.declared.finishing.FinishAnswer.the-variants.{Refused as FinishRefused, Empty, Sealed}
+use Rattle.snapshot.specs.declared.writing.WriteAnswer.{WriteAnswer}
+use Rattle.snapshot.specs.declared.writing.WriteAnswer.the-variants.{Refused as WriteRefused, Taken, Ok as Written}
+use Rattle.commit.specs.declared.finishing.FinishAnswer.{FinishAnswer}
+use Rattle.commit.specs.declared.finishing.FinishAnswer.the-variants.{Refused as FinishRefused, Empty, Sealed}
 use Rattle.history.specs.Desk.{Copy, find, put, upd}
 use Rattle.history.specs.History.{Seal, over, seen, pick}
 use Rattle.claims.specs.Call.{Event, began, looked, wrote, abandoned, finished, published, settled, reclaimed}

@@ -15,25 +15,25 @@ use Rattle.desk.specs.Begin.{beginRefused, beginReply}
 use Rattle.desk.specs.Abandon.{abandonRefused, abandonReply}
 use Rattle.desk.specs.Publish.{publishRefused, publishReply}
 use Rattle.desk.specs.declared.state.Desk.{Desk}
-use Rattle.store.specs.Session.{ownPlace, noWords}
-use Rattle.store.specs.Open.{openReply}
-use Rattle.store.specs.Read.{readFault, readRefused, readGives, readDone, readReply, holderOf}
-use Rattle.store.specs.Write.{ownsB, writeSays, writeReply}
-use Rattle.store.specs.Lists.{Tidy}
-use Rattle.store.specs.Finish.{finishFault, finishRefused, finishReply, finishEntries}
-use Rattle.store.specs.Settle.{settleFault, settleRefused, settleReply, settleEntries, startsBelow, endOf, goHomeEntries}
-use Rattle.store.specs.Reclaim.{reclaimFault, reclaimRefused, reclaimReply, reclaimEntries, chosen, noneLeft, clearEntries}
-use Rattle.store.specs.Recover.{slotsOf, recoverFault, recoverRefused, recoverReply, recoverEntries, cleanB, firstLog, replayEntries}
-use Rattle.store.specs.declared.reading.ReadReply.{ReadReply}
-use Rattle.store.specs.declared.reading.ReadAnswer.the-variants.{Copy}
-use Rattle.store.specs.declared.writing.WriteAnswer.the-variants.{Refused as WriteRefused}
-use Rattle.store.specs.declared.finishing.FinishReply.{FinishReply}
-use Rattle.store.specs.declared.settling.SettleReply.{SettleReply}
-use Rattle.store.specs.declared.settling.SettleAnswer.the-variants.{Wait, Ok as Settled}
-use Rattle.store.specs.declared.reclaiming.ReclaimReply.{ReclaimReply}
-use Rattle.store.specs.declared.reclaiming.ReclaimAnswer.the-variants.{None, Held, Cleared}
-use Rattle.store.specs.declared.recovering.RecoverReply.{RecoverReply}
-use Rattle.store.specs.declared.recovering.RecoverAnswer.the-variants.{Clean, Replayed}
+use Rattle.snapshot.specs.Own.{ownPlace, zeroWords}
+use Rattle.recovery.specs.Open.{openReply}
+use Rattle.snapshot.specs.Read.{readFault, readRefused, readGives, readDone, readReply, holderEntry}
+use Rattle.snapshot.specs.Write.{ownsB, writeSays, writeReply}
+use Rattle.layout.specs.Tidy.{Tidy}
+use Rattle.commit.specs.Finish.{finishFault, finishRefused, finishReply, finishEntries}
+use Rattle.commit.specs.Settle.{settleFault, settleRefused, settleReply, settleEntries, startsBelow, endOf, goHomeEntries}
+use Rattle.commit.specs.Reclaim.{reclaimFault, reclaimRefused, reclaimReply, reclaimEntries, chosen, noneLeft, clearEntries}
+use Rattle.recovery.specs.Recover.{slotsOf, recoverFault, recoverRefused, recoverReply, recoverEntries, cleanB, firstLog, replayEntries}
+use Rattle.snapshot.specs.declared.reading.ReadReply.{ReadReply}
+use Rattle.snapshot.specs.declared.reading.ReadAnswer.the-variants.{Copy}
+use Rattle.snapshot.specs.declared.writing.WriteAnswer.the-variants.{Refused as WriteRefused}
+use Rattle.commit.specs.declared.finishing.FinishReply.{FinishReply}
+use Rattle.commit.specs.declared.settling.SettleReply.{SettleReply}
+use Rattle.commit.specs.declared.settling.SettleAnswer.the-variants.{Wait, Ok as Settled}
+use Rattle.commit.specs.declared.reclaiming.ReclaimReply.{ReclaimReply}
+use Rattle.commit.specs.declared.reclaiming.ReclaimAnswer.the-variants.{None, Held, Cleared}
+use Rattle.recovery.specs.declared.recovering.RecoverReply.{RecoverReply}
+use Rattle.recovery.specs.declared.recovering.RecoverAnswer.the-variants.{Clean, Replayed}
 use Rattle.claims.specs.Rules.{Rules}
 use Rattle.claims.specs.Demands.{Demand2, Demand3}
 
@@ -138,7 +138,7 @@ holdsAtOnce p = withReclaim (λ img d s. record { answer = Held p; entries = 0; 
 
 -- "one that reads zeros every time"
 abbrev pub readsZeros : Rules
-readsZeros = withRead (λ img d s r. readGives d (readDone img d s r .answer) noWords)
+readsZeros = withRead (λ img d s r. readGives d (readDone img d s r .answer) zeroWords)
 
 -- "one that does nothing": every answer is the store's, and desk and image stay
 abbrev pub doesNothing : Rules
@@ -231,12 +231,12 @@ waitsForAll =
 
 -- "showing a sealed copy before publish": the holder is another session and sealed
 abbrev pub heldSealed : Desk → ℕ → ℕ → Bool
-heldSealed d s r = not (ownsB d s r) && not (eqb (markAt d r) 0) && isSealed (holderOf d r .phase)
+heldSealed d s r = not (ownsB d s r) && not (eqb (markAt d r) 0) && isSealed (holderEntry d r .phase)
 
 abbrev pub showsSealed : Rules
 showsSealed =
     withRead
-    (λ img d s r. cond (heldSealed d s r) (readGives d Copy (copyAt (holderOf d r) (ownPlace (holderOf d r) r) .words)) (readDone img d s r))
+    (λ img d s r. cond (heldSealed d s r) (readGives d Copy (copyAt (holderEntry d r) (ownPlace (holderEntry d r) r) .words)) (readDone img d s r))
 
 -- ---- the claim
 

@@ -13,16 +13,17 @@ use Rattle.desk.specs.declared.abandon.AbandonAnswer.{AbandonAnswer}
 use Rattle.desk.specs.declared.abandon.AbandonAnswer.the-variants.{Refused as AbandonRefused, Ok as Abandoned}
 use Rattle.desk.specs.declared.publish.PublishAnswer.{PublishAnswer}
 use Rattle.desk.specs.declared.publish.PublishAnswer.the-variants.{Refused as PublishRefused, End}
-use Rattle.store.specs.declared.reading.ReadAnswer.the-variants.{Refused as ReadRefused, Own, Copy as Copied, Home}
-use Rattle.store.specs.declared.writing.WriteAnswer.{WriteAnswer}
-use Rattle.store.specs.declared.writing.WriteAnswer.the-variants.{Refused as WriteRefused, Taken, Ok as Written}
-use Rattle.store.specs.declared.finishing.FinishAnswer.{FinishAnswer}
-use Rattle.store.specs.declared.finishing.FinishAnswer.the-variants.{Refused as FinishRefused, Empty, Sealed}
-use Rattle.store.specs.declared.settling.SettleAnswer.{SettleAnswer}
-use Rattle.store.specs.declared.settling.SettleAnswer.the-variants.{Refused as SettleRefused, Wait, Ok as Settled}
-use Rattle.store.specs.declared.reclaiming.ReclaimAnswer.{ReclaimAnswer}
-use Rattle.store.specs.declared.reclaiming.ReclaimAnswer.the-variants.{Refused as ReclaimRefused, None, Held, Cleared}
-use Rattle.history.specs.Desk.{Copy, find, put, upd, Session, idle, active, sealed, published, copies, found, lowest}
+use Rattle.snapshot.specs.declared.reading.ReadAnswer.the-variants.{Refused as ReadRefused, Own, Copy as Copied, Home}
+use Rattle.snapshot.specs.declared.writing.WriteAnswer.{WriteAnswer}
+use Rattle.snapshot.specs.declared.writing.WriteAnswer.the-variants.{Refused as WriteRefused, Taken, Ok as Written}
+use Rattle.commit.specs.declared.finishing.FinishAnswer.{FinishAnswer}
+use Rattle.commit.specs.declared.finishing.FinishAnswer.the-variants.{Refused as FinishRefused, Empty, Sealed}
+use Rattle.commit.specs.declared.settling.SettleAnswer.{SettleAnswer}
+use Rattle.commit.specs.declared.settling.SettleAnswer.the-variants.{Refused as SettleRefused, Wait, Ok as Settled}
+use Rattle.commit.specs.declared.reclaiming.ReclaimAnswer.{ReclaimAnswer}
+use Rattle.commit.specs.declared.reclaiming.ReclaimAnswer.the-variants.{Refused as ReclaimRefused, None, Held, Cleared}
+use Rattle.history.specs.Ledger.{fourWords}
+use Rattle.history.specs.Desk.{Copy, find, put, upd, Session, idle, active, sealed, published, copies, found, firstOf}
 use Rattle.claims.specs.Call.{Call, begin, read, write, abandon, finish, publish, settle, reclaim, Event, began, looked, wrote, abandoned, finished, settled, reclaimed}
 use Rattle.claims.specs.Call.{published as made-public}
 use Rattle.claims.specs.History.{History, feed, viewAt}
@@ -199,7 +200,7 @@ holds r x = found (find r (copies x))
 
 -- the transaction that holds record r, if there is one
 abbrev pub holderOf : ℕ → (ℕ → Session) → ℕ → Option ℕ
-holderOf M f r = lowest (λ t. holds r (f t)) M
+holderOf M f r = firstOf (λ t. holds r (f t)) M
 
 -- published, with an end at most this start
 abbrev pub shownTo : ℕ → Session → Bool
@@ -212,14 +213,10 @@ abbrev pub shownBy : ℕ → (ℕ → Session) → Option ℕ → Bool
 shownBy start f none = false
 shownBy start f (some t) = shownTo start (f t)
 
--- four words of a list: a record as it stands at home
-abbrev pub four : List ℕ → List ℕ
-four ws = getD ws 0 0 ∷ getD ws 1 0 ∷ getD ws 2 0 ∷ getD ws 3 0 ∷ []
-
 -- a read that is not own gives the history's view at the reader's start: from the holder's copy or from the home record
 abbrev pub dueOther : ℕ → ℕ → Bool → List ℕ → Event
 dueOther s r true ws = looked s r Copied ws
-dueOther s r false ws = looked s r Home (four ws)
+dueOther s r false ws = looked s r Home (fourWords ws)
 
 abbrev pub dueOwn : ℕ → ℕ → Option (List ℕ) → Event → Event
 dueOwn s r none other = other
@@ -283,7 +280,7 @@ abbrev pub dueSettle : ℕ → (ℕ → Session) → Session → SettleAnswer
 dueSettle M f idle = SettleRefused 6
 dueSettle M f (active b q cs) = SettleRefused 6
 dueSettle M f (sealed n q cs) = SettleRefused 6
-dueSettle M f (published e q cs) = dueWait (lowest (λ t. inTheWay e (f t)) M)
+dueSettle M f (published e q cs) = dueWait (firstOf (λ t. inTheWay e (f t)) M)
 
 -- the smallest persist number of the first k slots, 0 where all are empty
 abbrev pub lesser : ℕ → ℕ → ℕ

@@ -8,3 +8,4 @@ pub mod Recovery
 pub mod Demands
 pub mod Refusals
 pub mod Impostors
+pub mod Lists

@@ -15,15 +15,17 @@ use Rattle.desk.specs.Abandon.{abandonFault, abandonReply}
 use Rattle.desk.specs.Publish.{publishFault, publishReply}
 use Rattle.desk.specs.Told.{beginTold, abandonTold, publishTold}
 use Rattle.desk.specs.declared.state.Desk.{Desk}
-use Rattle.store.specs.Session.{noWords}
-use Rattle.store.specs.Open.{openFault, openReply, freshDesk}
-use Rattle.store.specs.Read.{readFault, readReply}
-use Rattle.store.specs.Write.{writeFault, writeReply}
-use Rattle.store.specs.Finish.{finishFault, finishReply, finishEntries}
-use Rattle.store.specs.Settle.{settleFault, settleReply, settleEntries}
-use Rattle.store.specs.Reclaim.{reclaimFault, reclaimReply, reclaimEntries}
-use Rattle.store.specs.Recover.{unsoundPlace, recoverFault, recoverReply, recoverEntries}
-use Rattle.store.specs.Told.{openTold, readTold, writeTold, finishTold, settleTold, reclaimTold, recoverTold}
+use Rattle.snapshot.specs.Own.{zeroWords}
+use Rattle.recovery.specs.Open.{openFault, openReply, freshDesk}
+use Rattle.snapshot.specs.Read.{readFault, readReply}
+use Rattle.snapshot.specs.Write.{writeFault, writeReply}
+use Rattle.commit.specs.Finish.{finishFault, finishReply, finishEntries}
+use Rattle.commit.specs.Settle.{settleFault, settleReply, settleEntries}
+use Rattle.commit.specs.Reclaim.{reclaimFault, reclaimReply, reclaimEntries}
+use Rattle.recovery.specs.Recover.{unsoundPlace, recoverFault, recoverReply, recoverEntries}
+use Rattle.recovery.specs.Told.{openTold, recoverTold}
+use Rattle.snapshot.specs.Told.{readTold, writeTold}
+use Rattle.commit.specs.Told.{finishTold, settleTold, reclaimTold}
 
 -- of a call with this fault, by what it tells and what it leaves: the number told is the fault; refused, it tells this value and leaves what was to
 -- be kept
@@ -69,7 +71,7 @@ pub record Refusals : Type 0 where
       → TurnedAway (recoverFault img len) (only 12 (unsoundPlace img) 0 (recoverFault img len)) (recoverTold (recoverReply img len .answer))
       (made (recoverEntries img len) img) img
   -- a refused read gives four zeros
-  pub read-words : (img : List ℕ) (d : Desk) (s r : ℕ) → (readFault img d s r ≡ 0 → ⊥) → readReply img d s r .words ≡ noWords
+  pub read-words : (img : List ℕ) (d : Desk) (s r : ℕ) → (readFault img d s r ≡ 0 → ⊥) → readReply img d s r .words ≡ zeroWords
   -- the four calls that store
   pub finish-stores : (img : List ℕ) (d : Desk) (len s : ℕ) → (finishFault img d len s ≡ 0 → ⊥)
       → StoresNothing (finishReply img d len s .entries) (finishEntries img d len s)

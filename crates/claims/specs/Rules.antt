@@ -9,20 +9,20 @@ use Rattle.desk.specs.declared.state.Desk.{Desk}
 use Rattle.desk.specs.declared.begin.BeginReply.{BeginReply}
 use Rattle.desk.specs.declared.abandon.AbandonReply.{AbandonReply}
 use Rattle.desk.specs.declared.publish.PublishReply.{PublishReply}
-use Rattle.store.specs.Open.{openReply}
-use Rattle.store.specs.Read.{readReply}
-use Rattle.store.specs.Write.{writeReply}
-use Rattle.store.specs.Finish.{finishReply, finishEntries}
-use Rattle.store.specs.Settle.{settleReply, settleEntries}
-use Rattle.store.specs.Reclaim.{reclaimReply, reclaimEntries}
-use Rattle.store.specs.Recover.{recoverReply, recoverEntries}
-use Rattle.store.specs.declared.opening.OpenReply.{OpenReply}
-use Rattle.store.specs.declared.reading.ReadReply.{ReadReply}
-use Rattle.store.specs.declared.writing.WriteReply.{WriteReply}
-use Rattle.store.specs.declared.finishing.FinishReply.{FinishReply}
-use Rattle.store.specs.declared.settling.SettleReply.{SettleReply}
-use Rattle.store.specs.declared.reclaiming.ReclaimReply.{ReclaimReply}
-use Rattle.store.specs.declared.recovering.RecoverReply.{RecoverReply}
+use Rattle.recovery.specs.Open.{openReply}
+use Rattle.snapshot.specs.Read.{readReply}
+use Rattle.snapshot.specs.Write.{writeReply}
+use Rattle.commit.specs.Finish.{finishReply, finishEntries}
+use Rattle.commit.specs.Settle.{settleReply, settleEntries}
+use Rattle.commit.specs.Reclaim.{reclaimReply, reclaimEntries}
+use Rattle.recovery.specs.Recover.{recoverReply, recoverEntries}
+use Rattle.recovery.specs.declared.opening.OpenReply.{OpenReply}
+use Rattle.snapshot.specs.declared.reading.ReadReply.{ReadReply}
+use Rattle.snapshot.specs.declared.writing.WriteReply.{WriteReply}
+use Rattle.commit.specs.declared.finishing.FinishReply.{FinishReply}
+use Rattle.commit.specs.declared.settling.SettleReply.{SettleReply}
+use Rattle.commit.specs.declared.reclaiming.ReclaimReply.{ReclaimReply}
+use Rattle.recovery.specs.declared.recovering.RecoverReply.{RecoverReply}
 
 -- arguments in the order image, desk, length of the trace, session, record, words, as far as the call takes them
 pub record Rules : Type 0 where

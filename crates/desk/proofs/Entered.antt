@@ -1,43 +1,62 @@
--- What a session call may go by past the checks that calls share, and what it answers by how far it comes.
-use Prim.Native.Nat.{ℕ, _+_, _^_, _<_, _≤_}
-use mathlib.Core.Bool.{true}
+-- What holds of image, desk, trace and session once the first checks of a call with an image have passed.
+use Prim.Native.Nat.{ℕ, _+_, _<_, _≤_}
+use mathlib.Core.Bool.{Bool, true, _&&_}
 use mathlib.Core.Path.{_≡_}
+use mathlib.Core.List.{List}
 use native.Mathlib.Omega.{arith}
-use lib.Dec.{ltb}
+use lib.Dec.{ltb, eqb}
+use lib.ListN.{length}
 use borrow.Author.Tests.{ltb-true}
-use Rattle.layout.specs.Checks.{first, commonFault, common-of}
-use Rattle.desk.specs.declared.state.Desk.{Desk}
-use Rattle.desk.specs.declared.state.Session.{Session}
-use Rattle.desk.specs.Desk.{copyAt}
+use Rattle.layout.specs.Checks.{unless}
+use Rattle.layout.proofs.ChecksLaws.{first-both, unless-zero, first-most, unless-most}
+use Rattle.layout.specs.Image.{recordsOf, sessionsOf, shapedB, homeAt}
+use Rattle.layout.proofs.Says.{says-and, says-eq}
+use Rattle.layout.proofs.Shape.{Shaped, says-shaped}
 use Rattle.desk.specs.Coherent.{coherentB}
-use Rattle.desk.proofs.Facts.{count-four, SessionIn, Coherent, says-coherent}
+use Rattle.desk.specs.Desk.{copiedRec, sessionAt}
+use Rattle.desk.specs.declared.state.Desk.{Desk}
+use Rattle.desk.proofs.Copied.{copies-below}
+use Rattle.desk.proofs.Facts.{Coherent, says-coherent}
+use Rattle.desk.specs.Entering.{entryFault, imageFault}
 
-pub record Entered (d : Desk) (s : ℕ) : Type 0 where
+pub record Entered (img : List ℕ) (d : Desk) (room : Bool) (s : ℕ) : Type 0 where
+  pub shaped : Shaped img
   pub coherent : Coherent d
-  pub below-m : s < d .m
-  pub below-16 : s < 16
+  pub n-same : d .n ≡ recordsOf img
+  pub m-same : d .m ≡ sessionsOf img
+  pub room-enough : room ≡ true
+  pub below : s < d .m
+  pub small : s < 16
 
--- a coherent desk and a session below M
-pub enters : (d : Desk) (s : ℕ) → coherentB d ≡ true → ltb s (d .m) ≡ true → Entered d s
-enters d s e l =
-    let h = says-coherent d .yes e in
-    let b = ltb-true s (d .m) l in
-    record { coherent = h; below-m = b; below-16 = omega (arith, h .m-high) }
+pub entered : (img : List ℕ) (d : Desk) (room : Bool) (s : ℕ) → imageFault img d room s ≡ 0 → Entered img d room s
+unfolding entryFault
+entered img d room s e =
+    let a = first-both (unless (shapedB img) 1) _ e in
+    let b = first-both (unless (coherentB d && eqb (d .n) (recordsOf img) && eqb (d .m) (sessionsOf img)) 2) _ (a .1) in
+    let c = first-both (unless room 3) _ (b .1) in
+    let t = says-and (says-and (says-coherent d) (says-eq (d .n) (recordsOf img))) (says-eq (d .m) (sessionsOf img)) .yes (unless-zero _ 1 (b .0)) in
+    let l : s < d .m = ltb-true _ _ (unless-zero _ 3 (c .1)) in
+    record {
+      shaped = says-shaped img .yes (unless-zero _ 0 (a .0));
+      coherent = t .0 .0;
+      n-same = t .0 .1;
+      m-same = t .1;
+      room-enough = unless-zero _ 2 (c .0);
+      below = l;
+      small = omega (arith, t .0 .0 .m-high, l);
+    }
 
--- the checks of a call without an image
-abbrev pub entryFault : Desk → ℕ → ℕ
-entryFault d s = commonFault true (coherentB d) true (ltb s (d .m))
+-- the session's copies are of small records, whose homes are in the image
+pub homes-inside : {img : List ℕ} {d : Desk} {room : Bool} {s : ℕ} → Entered img d room s → (j : ℕ) → j < sessionAt d s .count
+    → (copiedRec (sessionAt d s) j < 256) × (homeAt (copiedRec (sessionAt d s) j) + 4 ≤ length img)
+homes-inside {img} {d} {room} {s} f j l =
+    let b = copies-below d (f .coherent) s (f .small) j l in
+    (omega (arith, b, f .coherent .n-high), omega (arith, b, f .n-same, f .shaped .size))
 
-pub entered : (d : Desk) (s : ℕ) → entryFault d s ≡ 0 → Entered d s
-entered d s z = let h = common-of true (coherentB d) true (ltb s (d .m)) z in enters d s (h .desk-ok) (h .session-ok)
-
--- a coherent clock can be moved on by one
-pub clock-moves : (d : Desk) → Coherent d → d .clock + 1 < 2 ^ 64
-clock-moves d h = omega (arith, h .clock-high)
-
--- the marks of its first copies can be taken away
-pub markable : {clock n : ℕ} {e : Session} → SessionIn clock n e → n ≤ 256 → (count : ℕ) → count ≤ e .count
-    → (count ≤ 4) × ((j : ℕ) → j < count → copyAt e j .rec < 256)
-markable {clock} {n} {e} h w count l =
-    let m = count-four (e .phase) (e .count) (h .count) in
-    (omega arith, λ j k. let b = h .places j (omega arith) .0 (omega arith) .0 in omega arith)
+-- 1 to 4 are the numbers of these checks
+pub entry-most : (img : List ℕ) (d : Desk) (room : Bool) (s : ℕ) → imageFault img d room s ≤ 4
+unfolding entryFault
+entry-most img d room s =
+    first-most 4 _ _ (unless-most 4 (shapedB img) 1 (omega arith))
+    (first-most 4 _ _ (unless-most 4 (coherentB d && eqb (d .n) (recordsOf img) && eqb (d .m) (sessionsOf img)) 2 (omega arith))
+    (first-most 4 _ _ (unless-most 4 room 3 (omega arith)) (unless-most 4 (ltb s (d .m)) 4 (omega arith))))

@@ -1,4 +1,4 @@
--- The code's test, which strikes marks, is the definition: `soundB` is true just where `coherentB` is.
+-- The code's test, which strikes marks, is the definition: `coherentByStriking` is true just where `coherentB` is.
 use Prim.Native.Nat.{ℕ, zero, suc, _+_, _-_, _<_, _≤_}
 use mathlib.Core.Bool.{Bool, true, false, not, _&&_, _||_, cond, false≢true}
 use mathlib.Core.List.{List, [], _∷_}
@@ -17,9 +17,9 @@ use Rattle.desk.specs.declared.state.Phase.{Phase}
 use Rattle.desk.specs.declared.state.Phase.the-variants.{Idle, Active, Sealed, Published}
 use Rattle.desk.specs.Desk.{copyAt, sessionAt, markAt, isIdle}
 use Rattle.desk.specs.Coherent.{limit, zeroCopyB, sealedAt, coherentB}
-use Rattle.desk.specs.Strike.{strikes, struck, struckPlaces, placeT, placeAt, sessionT, busyT, busyH, struckTo, busyAt, quietAt, zeroAt, soundB}
+use Rattle.desk.specs.Strike.{strikable, struck, struckPlaces, placePasses, placePassesAt, sessionPasses, entryPasses, struckEntry, struckBelow, entryPassesAt, quietAt, zeroAt, coherentByStriking}
 use Rattle.desk.proofs.Facts.{CountIn, says-count, NumberIn, says-number, Copies, MarkIs, Coherent, says-coherent}
-use Rattle.desk.proofs.Sizes.{SizesIn, says-sizesT}
+use Rattle.desk.proofs.Sizes.{SizesIn, says-sizes-pass}
 
 -- a mark that is struck is 0, also past the end
 set-zero : (h : List ℕ) (i : ℕ) → getD (set h i 0) i 0 ≡ 0
@@ -101,7 +101,7 @@ module _ (d : Desk) where
 
   -- place j of session s strikes record k
   abbrev hits : ℕ → ℕ → ℕ → Bool
-  hits s k j = strikes (d .n) (at s .count) j (copyAt (at s) j) && eqb (recAt s j) k
+  hits s k j = strikable (d .n) (at s .count) j (copyAt (at s) j) && eqb (recAt s j) k
 
   abbrev Hits : ℕ → ℕ → ℕ → Type 0
   Hits s k j = ((j < at s .count) × ((recAt s j < d .n) × (recAt s j < 256))) × (recAt s j ≡ k)
@@ -133,15 +133,15 @@ module _ (d : Desk) where
   unfolding struckPlaces struck anyBelow
   left-places h s k zero = refl
   left-places h s k (suc j) =
-      left-one (strikes (d .n) (at s .count) j (copyAt (at s) j)) (struckPlaces h (d .n) (at s) j) (recAt s j) k
+      left-one (strikable (d .n) (at s .count) j (copyAt (at s) j)) (struckPlaces h (d .n) (at s) j) (recAt s j) k
       ∙ (ap (cond (hits s k j) 0) (left-places h s k j) ∙ left-twice (anyBelow j (hits s k)) (hits s k j) (getD h k 0))
 
   -- what the sessions below s leave of the mark of record k
-  left-sessions : (k s : ℕ) → getD (struckTo d s) k 0 ≡ cond (anyBelow s (takes k)) 0 (markAt d k)
-  unfolding struckTo busyH anyBelow
+  left-sessions : (k s : ℕ) → getD (struckBelow d s) k 0 ≡ cond (anyBelow s (takes k)) 0 (markAt d k)
+  unfolding struckBelow struckEntry anyBelow
   left-sessions k zero = refl
   left-sessions k (suc s) =
-      left-idle (idleAt s) _ (struckTo d s) _ k (left-places (struckTo d s) s k 4)
+      left-idle (idleAt s) _ (struckBelow d s) _ k (left-places (struckBelow d s) s k 4)
       ∙ (ap (cond (takes k s) 0) (left-sessions k s) ∙ left-twice (anyBelow s (takes k)) (takes k s) (markAt d k))
 
   -- nothing is left of the mark of record k: a session strikes it, or it is 0
@@ -149,7 +149,7 @@ module _ (d : Desk) where
   Gone k = ((s : ℕ) × (s < 16) × Takes k s) ⊎ (markAt d k ≡ 0)
 
   -- the code tests it by the list that is left
-  says-gone : (k : ℕ) → Says (zeroAt (struckTo d 16) k) (Gone k)
+  says-gone : (k : ℕ) → Says (zeroAt (struckBelow d 16) k) (Gone k)
   says-gone k =
       rw (left-sessions k 16, left-none (anyBelow 16 (takes k)) (markAt d k))
       (says-or (says-any 16 (says-takes k)) (says-eq (markAt d k) 0))
@@ -164,9 +164,9 @@ module _ (d : Desk) where
 
   -- the code tests it by the list that it strikes
   says-finds : (s j k : ℕ)
-      → Says ((ltb k (d .n) && ltb k 256) && eqb (getD (struckPlaces (struckTo d s) (d .n) (at s) j) k 0) (s + 1)) (Finds s j k)
+      → Says ((ltb k (d .n) && ltb k 256) && eqb (getD (struckPlaces (struckBelow d s) (d .n) (at s) j) k 0) (s + 1)) (Finds s j k)
   says-finds s j k =
-      rw (left-places (struckTo d s) s k j, left-sessions k s)
+      rw (left-places (struckBelow d s) s k j, left-sessions k s)
       (says-by
       (says-and (says-and (says-lt k (d .n)) (says-lt k 256))
       (says-left _ s (says-any j (says-hits s k)) (says-left _ s (says-any s (says-takes k)) (says-eq (markAt d k) (s + 1)))))
@@ -178,8 +178,8 @@ module _ (d : Desk) where
   Place s j = (j < at s .count → Finds s j (recAt s j)) × ((j < at s .count → ⊥) → zeroCopyB (copyAt (at s) j) ≡ true)
 
   -- that is what the code tests
-  says-place : (s j : ℕ) → Says (placeAt (struckTo d s) (d .n) (at s) (s + 1) j) (Place s j)
-  unfolding placeT
+  says-place : (s j : ℕ) → Says (placePassesAt (struckBelow d s) (d .n) (at s) (s + 1) j) (Place s j)
+  unfolding placePasses
   says-place s j = says-if (says-lt j (at s .count)) (says-finds s j (recAt s j)) (says-itself (zeroCopyB (copyAt (at s) j)))
 
   -- an idle session has nothing
@@ -200,8 +200,8 @@ module _ (d : Desk) where
       × ((j : ℕ) → j < 4 → Place s j)
 
   -- that is what the code tests where it is not idle
-  says-busy : (s : ℕ) → Says (busyAt d s) ((idleAt s ≡ true → true ≡ true) × ((idleAt s ≡ true → ⊥) → Busy s × (s < d .m)))
-  unfolding busyT sessionT
+  says-busy : (s : ℕ) → Says (entryPassesAt d s) ((idleAt s ≡ true → true ≡ true) × ((idleAt s ≡ true → ⊥) → Busy s × (s < d .m)))
+  unfolding entryPasses sessionPasses
   says-busy s =
       says-if (says-itself (idleAt s)) (says-itself true)
       (says-and
@@ -235,7 +235,7 @@ module _ (d : Desk) where
   to-busy : (s : ℕ) → Entry s → (idleAt s ≡ true → ⊥) → Busy s × (s < d .m)
   to-busy s r n = (r .0, by-case (r .1) (λ l. l) (λ i. absurd (n i)))
 
-  -- what `soundB` says
+  -- what `coherentByStriking` says
   record Sound : Type 0 where
     sizes : SizesIn d
     clock-high : d .clock + countBelow 16 (sealedAt d) ≤ limit + 16
@@ -243,11 +243,11 @@ module _ (d : Desk) where
     gone : (k : ℕ) → k < 256 → Gone k
 
   -- the whole test
-  says-sound : Says (soundB d) Sound
-  unfolding soundB
+  says-sound : Says (coherentByStriking d) Sound
+  unfolding coherentByStriking
   says-sound =
       says-by
-      (says-and (says-sizesT d)
+      (says-and (says-sizes-pass d)
       (says-and (says-all 16 says-quiet)
       (says-and (says-all 16 says-busy)
       (says-and (says-le (d .clock + countBelow 16 (sealedAt d)) (limit + 16)) (says-all 256 says-gone)))))
@@ -353,5 +353,5 @@ module _ (d : Desk) where
         }
 
   -- the test that strikes marks is the definition
-  pub sound-coherent : soundB d ≡ coherentB d
+  pub sound-coherent : coherentByStriking d ≡ coherentB d
   sound-coherent = says-equal says-sound (says-coherent d) to-coherent to-sound

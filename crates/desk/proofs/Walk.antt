@@ -6,37 +6,38 @@ use mathlib.Core.Path.{_≡_, refl, sym, _∙_}
 use native.Mathlib.Numerals.{add-one}
 use native.Mathlib.Omega.{arith}
 use borrow.Author.Tests.{le-leb, lt-leb}
-use Rattle.layout.specs.Below.{allBelow, countBelow, all-more, all-fails, count-more, count-most}
+use Rattle.layout.specs.Below.{allBelow, countBelow}
+use Rattle.layout.proofs.BelowLaws.{all-more, all-fails, count-more, count-most}
 use Rattle.desk.specs.declared.state.Desk.{Desk}
 use Rattle.desk.specs.Desk.{sessionAt}
 use Rattle.desk.specs.Coherent.{limit, sealedAt, coherentB}
-use Rattle.desk.specs.Strike.{busyT, busyH, struckTo, busyAt, quietAt, zeroAt, sizesT, soundB}
-use Rattle.desk.proofs.Sizes.{says-sizesT}
+use Rattle.desk.specs.Strike.{entryPasses, struckEntry, struckBelow, entryPassesAt, quietAt, zeroAt, sizesPass, coherentByStriking}
+use Rattle.desk.proofs.Sizes.{says-sizes-pass}
 use Rattle.desk.proofs.Struck.{sound-coherent}
 
 -- the first loop: the sizes are in range, and the sessions below s that are idle have nothing
 pub record Idles (d : Desk) (s : ℕ) : Type 0 where
-  pub sizes : sizesT d ≡ true
+  pub sizes : sizesPass d ≡ true
   pub quiet : allBelow s (quietAt d) ≡ true
 
 -- the second: h is what the sessions below t leave of the holders, with nothing wrong, and `sealed` of them are sealed
 pub record Walk (d : Desk) (h : List ℕ) (sealed t : ℕ) : Type 0 where
   pub idles : Idles d 16
-  pub marks : h ≡ struckTo d t
-  pub busy : allBelow t (busyAt d) ≡ true
+  pub marks : h ≡ struckBelow d t
+  pub busy : allBelow t (entryPassesAt d) ≡ true
   pub count : sealed ≡ countBelow t (sealedAt d)
 
 -- the answer `false`
-refused : (d : Desk) → soundB d ≡ false → false ≡ coherentB d
+refused : (d : Desk) → coherentByStriking d ≡ false → false ≡ coherentB d
 refused d e = sym e ∙ sound-coherent d
 
 -- a size is out of range
-pub sizes-fail : (d : Desk) → sizesT d ≡ false → false ≡ coherentB d
-unfolding soundB
+pub sizes-fail : (d : Desk) → sizesPass d ≡ false → false ≡ coherentB d
+unfolding coherentByStriking
 sizes-fail d e = refused d (rw e)
 
 -- no session is tested yet
-pub idles-start : (d : Desk) → sizesT d ≡ true → Idles d 0
+pub idles-start : (d : Desk) → sizesPass d ≡ true → Idles d 0
 unfolding allBelow
 idles-start d e = record { sizes = e; quiet = refl }
 
@@ -47,48 +48,48 @@ module _ {d : Desk} {s : ℕ} (w : Idles d s) where
 
   -- session s has not passed
   pub idles-fail : s < 16 → quietAt d s ≡ false → false ≡ coherentB d
-  unfolding soundB
+  unfolding coherentByStriking
   idles-fail l e = refused d (rw (w .sizes, all-fails (quietAt d) 16 s l e))
 
   -- after the last session the second loop begins
   pub walk-starts : s ≡ 16 → Walk d (d .holders) 0 0
-  unfolding allBelow struckTo countBelow
+  unfolding allBelow struckBelow countBelow
   walk-starts e = record { idles = rw e at w; marks = refl; busy = refl; count = refl }
 
 module _ {d : Desk} {h : List ℕ} {sealed t : ℕ} (w : Walk d h sealed t) where
   -- session t, as the loop tests it
   abbrev tested : Bool
-  tested = busyT h (d .clock) (d .n) (d .m) t (sessionAt d t)
+  tested = entryPasses h (d .clock) (d .n) (d .m) t (sessionAt d t)
 
-  tested-at : (b : Bool) → tested ≡ b → busyAt d t ≡ b
+  tested-at : (b : Bool) → tested ≡ b → entryPassesAt d t ≡ b
   tested-at b e = rw (w .marks) at e
 
   -- session t has passed
-  pub walk-turns : tested ≡ true → Walk d (busyH h (d .n) (sessionAt d t)) (sealed + cond (sealedAt d t) 1 0) (t + 1)
-  unfolding struckTo
+  pub walk-turns : tested ≡ true → Walk d (struckEntry h (d .n) (sessionAt d t)) (sealed + cond (sealedAt d t) 1 0) (t + 1)
+  unfolding struckBelow
   walk-turns e =
       record {
         idles = w .idles;
         marks = rw (add-one, w .marks);
-        busy = all-more (busyAt d) t (w .busy) (tested-at true e);
+        busy = all-more (entryPassesAt d) t (w .busy) (tested-at true e);
         count = rw (w .count) (sym (count-more (sealedAt d) t));
       }
 
   -- session t has not passed
   pub walk-fails : t < 16 → tested ≡ false → false ≡ coherentB d
-  unfolding soundB
-  walk-fails l e = refused d (rw (w .idles .sizes, w .idles .quiet, all-fails (busyAt d) 16 t l (tested-at false e)))
+  unfolding coherentByStriking
+  walk-fails l e = refused d (rw (w .idles .sizes, w .idles .quiet, all-fails (entryPassesAt d) 16 t l (tested-at false e)))
 
   -- the count stays small, and so does the clock with it
   pub count-fits : sealed + cond (sealedAt d t) 1 0 ≤ t + 1
   count-fits = omega (arith, w .count, count-most (sealedAt d) (t + 1), count-more (sealedAt d) t)
 
   pub clock-fits : d .clock + sealed ≤ limit + 16 + t
-  clock-fits = omega (arith, w .count, count-most (sealedAt d) t, says-sizesT d .yes (w .idles .sizes) .0 .0 .1)
+  clock-fits = omega (arith, w .count, count-most (sealedAt d) t, says-sizes-pass d .yes (w .idles .sizes) .0 .0 .1)
 
   module _ (e : t ≡ 16) where
     -- after the last session
-    busy-all : allBelow 16 (busyAt d) ≡ true
+    busy-all : allBelow 16 (entryPassesAt d) ≡ true
     busy-all = rw e at (w .busy)
 
     count-all : sealed ≡ countBelow 16 (sealedAt d)
@@ -96,12 +97,12 @@ module _ {d : Desk} {h : List ℕ} {sealed t : ℕ} (w : Walk d h sealed t) wher
 
     -- the clock is too high for so many sealed sessions
     pub clock-fails : limit + 16 < d .clock + sealed → false ≡ coherentB d
-    unfolding soundB
+    unfolding coherentByStriking
     clock-fails l = refused d (rw (w .idles .sizes, w .idles .quiet, busy-all, lt-leb _ _ (rw count-all at l)))
 
     -- what is left decides
     pub walk-ends : d .clock + sealed ≤ limit + 16 → allBelow 256 (zeroAt h) ≡ coherentB d
-    unfolding soundB
+    unfolding coherentByStriking
     walk-ends l =
-        let m : h ≡ struckTo d 16 = rw e at (w .marks) in
+        let m : h ≡ struckBelow d 16 = rw e at (w .marks) in
         rw (← sound-coherent d, w .idles .sizes, w .idles .quiet, busy-all, le-leb _ _ (rw count-all at l), m)

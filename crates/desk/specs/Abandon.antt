@@ -1,16 +1,14 @@
 -- Abandon (document 01): active only; marks and copies are dropped, the session is idle. Checks 2, 4, 6.
 use Prim.Native.Nat.{ℕ}
-use mathlib.Core.Bool.{true}
-use lib.Dec.{ltb}
-use Rattle.layout.specs.Checks.{unless, first, commonFault, answered}
+use Rattle.layout.specs.Checks.{unless, first, answered}
 use Rattle.desk.specs.Desk.{sessionAt, isActive, dropped}
-use Rattle.desk.specs.Coherent.{coherentB}
+use Rattle.desk.specs.Entering.{deskFault}
 use Rattle.desk.specs.declared.state.Desk.{Desk}
 use Rattle.desk.specs.declared.abandon.AbandonAnswer.the-variants.{Refused, Ok}
 use Rattle.desk.specs.declared.abandon.AbandonReply.{AbandonReply}
 
 unfoldable pub abandonFault : Desk → ℕ → ℕ
-abandonFault d s = first (commonFault true (coherentB d) true (ltb s (d .m))) (unless (isActive (sessionAt d s .phase)) 6)
+abandonFault d s = first (deskFault d s) (unless (isActive (sessionAt d s .phase)) 6)
 
 abbrev pub abandonRefused : Desk → ℕ → AbandonReply
 abandonRefused d k = record { answer = Refused k; desk = d }

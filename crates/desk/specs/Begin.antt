@@ -1,17 +1,15 @@
 -- Begin (document 01): idle becomes active; start is the clock. Checks 2, 4, 6.
 use Prim.Native.Nat.{ℕ}
-use mathlib.Core.Bool.{true}
-use lib.Dec.{ltb}
-use Rattle.layout.specs.Checks.{unless, first, commonFault, answered}
+use Rattle.layout.specs.Checks.{unless, first, answered}
 use Rattle.desk.specs.Desk.{sessionAt, isIdle, withPhase, putSession}
-use Rattle.desk.specs.Coherent.{coherentB}
+use Rattle.desk.specs.Entering.{deskFault}
 use Rattle.desk.specs.declared.state.Phase.the-variants.{Active}
 use Rattle.desk.specs.declared.state.Desk.{Desk}
 use Rattle.desk.specs.declared.begin.BeginAnswer.the-variants.{Refused, Start}
 use Rattle.desk.specs.declared.begin.BeginReply.{BeginReply}
 
 unfoldable pub beginFault : Desk → ℕ → ℕ
-beginFault d s = first (commonFault true (coherentB d) true (ltb s (d .m))) (unless (isIdle (sessionAt d s .phase)) 6)
+beginFault d s = first (deskFault d s) (unless (isIdle (sessionAt d s .phase)) 6)
 
 abbrev pub beginRefused : Desk → ℕ → BeginReply
 beginRefused d k = record { answer = Refused k; desk = d }

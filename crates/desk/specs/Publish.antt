@@ -1,18 +1,16 @@
 -- Publish (document 01): sealed only. End is clock + 1 and the clock becomes that. Checks 2, 4, 6.
 use Prim.Native.Nat.{ℕ, _+_}
-use mathlib.Core.Bool.{true}
-use lib.Dec.{ltb}
 use lib.ListN.{set}
-use Rattle.layout.specs.Checks.{unless, first, commonFault, answered}
+use Rattle.layout.specs.Checks.{unless, first, answered}
 use Rattle.desk.specs.Desk.{sessionAt, isSealed, withPhase}
-use Rattle.desk.specs.Coherent.{coherentB}
+use Rattle.desk.specs.Entering.{deskFault}
 use Rattle.desk.specs.declared.state.Phase.the-variants.{Published}
 use Rattle.desk.specs.declared.state.Desk.{Desk}
 use Rattle.desk.specs.declared.publish.PublishAnswer.the-variants.{Refused, End}
 use Rattle.desk.specs.declared.publish.PublishReply.{PublishReply}
 
 unfoldable pub publishFault : Desk → ℕ → ℕ
-publishFault d s = first (commonFault true (coherentB d) true (ltb s (d .m))) (unless (isSealed (sessionAt d s .phase)) 6)
+publishFault d s = first (deskFault d s) (unless (isSealed (sessionAt d s .phase)) 6)
 
 abbrev pub publishRefused : Desk → ℕ → PublishReply
 publishRefused d k = record { answer = Refused k; desk = d }

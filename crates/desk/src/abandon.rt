@@ -2,6 +2,7 @@
 ghost use mathlib.Core.Path.{_≡_};
 ghost use Rattle.desk.specs.Abandon.{abandonReply};
 use crate::coherence::coherent;
+use crate::entering::session_fault;
 use crate::session::idle_session;
 use crate::session::is_active;
 use crate::session::unmark;
@@ -23,7 +24,7 @@ impl Desk {
     {
         let sound = coherent(self);
         let m = self.m;
-        let fault = layout::common_fault(true, sound, true, session < m);
+        let fault = session_fault(sound, m, session);
         if fault != 0 {
             return AbandonReply {
                 answer: AbandonAnswer::Refused(fault),

@@ -1,3 +1,4 @@
+// Whether a desk is coherent. Each copy's mark is struck out of a copy of the holders, and nothing may be left.
 ghost use mathlib.Core.Path.{_≡_};
 ghost use Prim.Native.Nat.{_+_, _≤_, _<_};
 ghost use mathlib.Core.Bool.{true, not, _||_, cond};
@@ -5,12 +6,15 @@ ghost use lib.ListN.{getD};
 ghost use Rattle.layout.specs.Below.{allBelow};
 ghost use Rattle.desk.specs.Desk.{isSealed};
 ghost use Rattle.desk.specs.Coherent.{countOk, numberOk, slotOk, zeroCopyB, coherentB};
-ghost use Rattle.desk.specs.Strike.{struck, placeT, struckPlaces, sessionT, busyT, busyH, quietB, zeroAt};
+ghost use Rattle.desk.specs.Strike.{struck, placePasses, struckPlaces, sessionPasses, entryPasses, struckEntry, quiet, zeroAt};
 use crate::session::is_idle;
 use crate::state::Desk;
 use crate::state::Phase;
 use crate::state::RecordCopy;
 use crate::state::Session;
+
+// L + 16: the most that the clock and the number of sealed sessions come to.
+const CLOCK_MOST: u64 = 4_611_686_018_427_387_920;
 
 fn count_ok(p: Phase, count: u64) -> bool
     ensures { λ r. ⌜ r ≡ countOk p count ⌝ }
@@ -60,7 +64,7 @@ fn zero_copy(c: RecordCopy) -> bool
 
 // Place j of a session with `count` copies: in use, its record is below n and has the mark, which is struck out; else it is zero.
 fn place(h: &mut [u8; 256], n: u64, count: u64, j: u64, c: RecordCopy, mark: u8) -> bool
-    ensures { λ r. ⌜ (r ≡ placeT (now (h .entry)) n count j c mark) × (now (h .exit) ≡ struck (now (h .entry)) n count j c) ⌝ }
+    ensures { λ r. ⌜ (r ≡ placePasses (now (h .entry)) n count j c mark) × (now (h .exit) ≡ struck (now (h .entry)) n count j c) ⌝ }
 {
     if j < count {
         let k = c.rec;
@@ -78,7 +82,7 @@ fn place(h: &mut [u8; 256], n: u64, count: u64, j: u64, c: RecordCopy, mark: u8)
 }
 
 fn session_ok(h: &mut [u8; 256], clock: u64, n: u64, e: Session, mark: u8) -> bool
-    ensures { λ r. ⌜ (r ≡ sessionT (now (h .entry)) clock n e mark) × (now (h .exit) ≡ struckPlaces (now (h .entry)) n e 4) ⌝ }
+    ensures { λ r. ⌜ (r ≡ sessionPasses (now (h .entry)) clock n e mark) × (now (h .exit) ≡ struckPlaces (now (h .entry)) n e 4) ⌝ }
 {
     let p = e.phase;
     let count = e.count;
@@ -97,9 +101,9 @@ fn session_ok(h: &mut [u8; 256], clock: u64, n: u64, e: Session, mark: u8) -> bo
     a & b & c & p0 & p1 & p2 & p3
 }
 
-fn busy_ok(h: &mut [u8; 256], clock: u64, n: u64, m: u64, s: usize, e: Session) -> bool
+fn entry_ok(h: &mut [u8; 256], clock: u64, n: u64, m: u64, s: usize, e: Session) -> bool
     requires { ⌜ s < 16 ⌝ }
-    ensures { λ r. ⌜ (r ≡ busyT (now (h .entry)) clock n m s e) × (now (h .exit) ≡ busyH (now (h .entry)) n e) ⌝ }
+    ensures { λ r. ⌜ (r ≡ entryPasses (now (h .entry)) clock n m s e) × (now (h .exit) ≡ struckEntry (now (h .entry)) n e) ⌝ }
 {
     let p = e.phase;
     if is_idle(p) {
@@ -112,7 +116,7 @@ fn busy_ok(h: &mut [u8; 256], clock: u64, n: u64, m: u64, s: usize, e: Session) 
 
 // Whether a session is as an idle one is left.
 fn quiet_ok(e: Session) -> bool
-    ensures { λ r. ⌜ r ≡ quietB e ⌝ }
+    ensures { λ r. ⌜ r ≡ quiet e ⌝ }
 {
     let count = e.count;
     let slot = e.slot;
@@ -147,7 +151,7 @@ pub fn coherent(d: Desk) -> bool
     let n = d.n;
     let m = d.m;
     let sizes = (1 <= clock)
-        & (clock <= 4611686018427387920)
+        & (clock <= CLOCK_MOST)
         & ((1 <= n) & (n <= 256))
         & ((1 <= m) & (m <= 16));
     if !sizes {
@@ -170,14 +174,14 @@ pub fn coherent(d: Desk) -> bool
     while t < 16 {
         let e = d.sessions[t];
         let p = e.phase;
-        if !busy_ok(&mut h, clock, n, m, t, e) {
+        if !entry_ok(&mut h, clock, n, m, t, e) {
             return false;
         }
         let one = sealed_one(p);
         sealed = sealed + one;
         t += 1;
     }
-    if 4611686018427387920 < clock + sealed {
+    if CLOCK_MOST < clock + sealed {
         return false;
     }
     all_zero(&h)

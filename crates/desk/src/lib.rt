@@ -1,7 +1,8 @@
-// The volatile transaction table, its coherence, and the calls that take it without an image.
+// The volatile transaction table, its coherence, the first checks of the calls that take it, and the calls that take it without an image.
 mod abandon;
 mod begin;
 mod coherence;
+mod entering;
 mod publish;
 mod session;
 mod state;
@@ -11,6 +12,8 @@ pub use abandon::AbandonReply;
 pub use begin::BeginAnswer;
 pub use begin::BeginReply;
 pub use coherence::coherent;
+pub use entering::entry_fault;
+pub use entering::record_fault;
 pub use publish::PublishAnswer;
 pub use publish::PublishReply;
 pub use session::idle_session;

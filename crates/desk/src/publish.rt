@@ -2,6 +2,7 @@
 ghost use mathlib.Core.Path.{_≡_};
 ghost use Rattle.desk.specs.Publish.{publishReply};
 use crate::coherence::coherent;
+use crate::entering::session_fault;
 use crate::session::is_sealed;
 use crate::session::with_phase;
 use crate::state::Desk;
@@ -23,7 +24,7 @@ impl Desk {
     {
         let sound = coherent(self);
         let m = self.m;
-        let fault = layout::common_fault(true, sound, true, session < m);
+        let fault = session_fault(sound, m, session);
         if fault != 0 {
             return PublishReply {
                 answer: PublishAnswer::Refused(fault),

@@ -22,8 +22,8 @@ pub struct Session {
     pub copies: [RecordCopy; 4],
 }
 
-// The desk: the clock, the numbers of records and sessions, the holder mark of each record (0: none, s + 1: session s),
-// and the session entries.
+// The desk, document 01's term for the volatile transaction table: the clock, the numbers of records and sessions, the holder mark of each
+// record (0: none, s + 1: session s), and the session entries.
 pub struct Desk {
     pub clock: u64,
     pub n: u64,

@@ -1,10 +1,16 @@
-// Standard input through a buffer of fixed size. `refill` is public for the programs above, and asks for places within the buffer.
+// Standard input and output through buffers of fixed size. The functions are public for the programs above: they ask for places within the buffer.
+// What the operating system answers is theirs to hand on: how many bytes a read brought (0 at the end of the input and where a read fails), and
+// whether a write took all.
+ghost use mathlib.Core.Path.{_≡_};
 ghost use Prim.Native.Nat.{_+_, _≤_};
-ghost use lib.ListN.{length};
+ghost use lib.ListN.{length, drop};
+ghost use lib.Seq.{paste};
+ghost use Rattle.feed.specs.Feed.{Refilled};
 
 // Moves the n bytes from `from` on to the start.
 fn shift(buf: &mut [u8], from: usize, n: usize)
     requires { ⌜ from + n ≤ length (now buf) ⌝ }
+    ensures { λ r. ⌜ now (buf .exit) ≡ paste (now (buf .entry)) 0 (drop from (now (buf .entry))) n ⌝ }
 {
     let mut j: usize = 0;
     while j < n {
@@ -13,14 +19,20 @@ fn shift(buf: &mut [u8], from: usize, n: usize)
     }
 }
 
-// Moves what is left of the input to the start and reads once behind it; the answer is how many bytes are held then.
+// Moves the bytes held, from `at` to `have`, to the start and reads once behind them; the answer is how many bytes came.
 pub fn refill(buf: &mut [u8], at: usize, have: usize) -> usize
     requires { ⌜ (at ≤ have) × (have ≤ length (now buf)) ⌝ }
-    ensures { λ r. ⌜ r ≤ length (now (buf .entry)) ⌝ }
+    ensures { λ r. ⌜ Refilled (now (buf .entry)) at have (now (buf .exit)) r ⌝ }
 {
     let left = have - at;
     shift(buf, at, left);
     let got = libc::read(0, &mut buf[left..]);
-    let n = io::count(got, &buf[left..]);
-    left + n
+    io::count(got, &buf[left..])
+}
+
+// Writes the first n bytes to standard output; the answer is whether all were taken.
+pub fn write_out(buf: &[u8], n: usize) -> bool
+    requires { ⌜ n ≤ length (now buf) ⌝ }
+{
+    io::write_all(1, &buf[..n])
 }

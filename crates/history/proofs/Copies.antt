@@ -10,7 +10,7 @@ use native.Mathlib.Omega.{arith}
 use lib.ListN.{length, getD}
 use lib.Dec.{T, eqb, eqb→eq, eqb-refl}
 use Rattle.history.specs.Log.{In}
-use Rattle.history.specs.Desk.{Copy, find, put, spot, writes, copies, upd, later, lowest}
+use Rattle.history.specs.Desk.{Copy, find, put, spot, writes, copies, upd, later, firstOf}
 use Rattle.history.proofs.Choice.{neqb→ne}
 
 -- the copies have record r with the words ws
@@ -192,10 +192,10 @@ abbrev pub Lowest : (ℕ → Bool) → ℕ → Option ℕ → Type 0
 Lowest f k none = (t : ℕ) → t < k → T (not (f t))
 Lowest f k (some t) = Least f k t
 
-pub lowest? : (f : ℕ → Bool) (k : ℕ) → Lowest f k (lowest f k)
-unfolding lowest
-lowest? f zero = λ t l. absurd (omega arith)
-lowest? f (suc k) = go (lowest f k) (lowest? f k)
+pub firstOf? : (f : ℕ → Bool) (k : ℕ) → Lowest f k (firstOf f k)
+unfolding firstOf
+firstOf? f zero = λ t l. absurd (omega arith)
+firstOf? f (suc k) = go (firstOf f k) (firstOf? f k)
   where
     go : (o : Option ℕ) → Lowest f k o → Lowest f (suc k) (later f k o)
     go (some t) l = record { below = omega (arith, l .below); passes = l .passes; first = l .first }

@@ -11,13 +11,13 @@ use lib.Seq.{getD-take, getD-drop}
 use lib.Dec.{T, leb}
 use borrow.Author.Tests.{leb-true}
 use Rattle.history.specs.Layout.{view}
-use Rattle.history.specs.Desk.{Copy, find, spot, Session, idle, active, sealed, published, copies, Desk, found, holder, lowest}
+use Rattle.history.specs.Desk.{Copy, find, spot, Session, idle, active, sealed, published, copies, Desk, found, holder, firstOf}
 use Rattle.history.specs.History.{Call, read, home, History, seen-at}
 use Rattle.history.specs.Calls.{home-words, shown, held-by, reads-other, reads-own, reads}
 use Rattle.history.specs.Run.{World, answer, after}
 use Rattle.history.specs.Right.{Right}
 use Rattle.history.proofs.Book.{own-view}
-use Rattle.history.proofs.Copies.{Mem, Fresh, Found, find?, find-fresh, find-mem, Lowest, lowest?}
+use Rattle.history.proofs.Copies.{Mem, Fresh, Found, find?, find-fresh, find-mem, Lowest, firstOf?}
 use Rattle.history.proofs.Invariant.{Active, Fine, NoOne, shown-copies}
 use Rattle.history.proofs.Kept.{Holds, done}
 
@@ -92,4 +92,4 @@ module _ (N M : ℕ) (img : List ℕ) (d : Desk) (h : History) (H : Holds N M im
 
   pub read-right : (o : Option (List ℕ)) → Found r cs o → Right h s r (reads-own img d r b (held-by d (holder M d r)) o .answer)
   read-right (some ws) m = rw (act .drafted) (find-mem r ws cs (act .lawful .distinct) m)
-  read-right none f = by-holder f (holder M d r) (lowest? (λ t. found (find r (copies (d .session t)))) M) (find r (shown b (held-by d (holder M d r)))) (find? r (shown b (held-by d (holder M d r))))
+  read-right none f = by-holder f (holder M d r) (firstOf? (λ t. found (find r (copies (d .session t)))) M) (find r (shown b (held-by d (holder M d r)))) (find? r (shown b (held-by d (holder M d r))))

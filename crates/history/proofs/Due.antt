@@ -15,7 +15,7 @@ use Rattle.history.specs.Desk.{Copy, find, Session, idle, active, sealed
 use Rattle.history.specs.History.{Call, begin, read, write, abandon, finish, publish, settle, reclaim, Answer, refused, home, History, seen-at}
 use Rattle.history.specs.Calls.{Reply, refuse, home-words, shown, held-by, reads-other, reads-own, reads, adds, writes-own, wrote, candidate, clears, reclaims, place, reply}
 use Rattle.history.specs.Run.{World, answer, answers, after}
-use Rattle.history.specs.Ledger.{slots, Ledger, note, four, due-other, due-own, due-read, due-of, due}
+use Rattle.history.specs.Ledger.{slots, Ledger, note, fourWords, due-other, due-own, due-read, due-of, due}
 use Rattle.history.specs.Right.{Right}
 use Rattle.history.proofs.Copies.{Fresh, Found, find?}
 use Rattle.history.proofs.Invariant.{Active}
@@ -31,20 +31,20 @@ oldest-slots v (suc k) = ap (λ o. better v o k) (oldest-slots v k) ∙ go (olde
     go none = refl
     go (some q) = refl
 
-home-four : (N M : ℕ) (img : List ℕ) (r : ℕ) (ws : List ℕ) → length img ≡ 4 + 4 * N + 44 * M → r < N → ((j : ℕ) → j < 4 → getD (home-words img r) j 0 ≡ getD ws j 0) → home-words img r ≡ four ws
-home-four N M img r ws e l h = ext-getD 0 (home-words img r) (four ws) (rw (length-take 4 (drop (4 + 4 * r) img), length-drop (4 + 4 * r) img) (omega arith)) at
+home-four : (N M : ℕ) (img : List ℕ) (r : ℕ) (ws : List ℕ) → length img ≡ 4 + 4 * N + 44 * M → r < N → ((j : ℕ) → j < 4 → getD (home-words img r) j 0 ≡ getD ws j 0) → home-words img r ≡ fourWords ws
+home-four N M img r ws e l h = ext-getD 0 (home-words img r) (fourWords ws) (rw (length-take 4 (drop (4 + 4 * r) img), length-drop (4 + 4 * r) img) (omega arith)) at
   where
     long : length (home-words img r) ≡ 4
     long = rw (length-take 4 (drop (4 + 4 * r) img), length-drop (4 + 4 * r) img) (omega arith)
 
-    word : (i : ℕ) → i < 4 → getD ws i 0 ≡ getD (four ws) i 0
+    word : (i : ℕ) → i < 4 → getD ws i 0 ≡ getD (fourWords ws) i 0
     word zero k = refl
     word (suc zero) k = refl
     word (suc (suc zero)) k = refl
     word (suc (suc (suc zero))) k = refl
     word (suc (suc (suc (suc i)))) k = absurd (omega arith)
 
-    at : (i : ℕ) → i < length (home-words img r) → getD (home-words img r) i 0 ≡ getD (four ws) i 0
+    at : (i : ℕ) → i < length (home-words img r) → getD (home-words img r) i 0 ≡ getD (fourWords ws) i 0
     at i k = let k4 : i < 4 = omega (arith, long) in h i k4 ∙ word i k4
 
 module _ (N M : ℕ) (img : List ℕ) (d : Desk) (h : History) (H : Holds N M img d h) where

@@ -16,16 +16,16 @@ use Rattle.layout.specs.Crash.{crashed as cut}
 use Rattle.history.specs.Layout.{Home, base, body, denoted, view, Sound, Good}
 use Rattle.history.specs.Recover.{oldest}
 use Rattle.history.specs.Batch.{laid}
-use Rattle.history.specs.Desk.{Copy, find, put, spot, writes, Session, idle, active, sealed, published, copies, Desk, upd, with-session, lowest, found, holder, before}
+use Rattle.history.specs.Desk.{Copy, find, put, spot, writes, Session, idle, active, sealed, published, copies, Desk, upd, with-session, firstOf, found, holder, before}
 use Rattle.history.specs.History.{Call, begin, read, write, abandon, finish, publish, settle, reclaim, Answer, refused, taken, ok, start, own, copied, home, empty, sealed-at, wait, nothing, held, cleared, History, feed, last, seen-at, begun, drafted, sealing}
-use Rattle.history.specs.Calls.{Reply, limit, place, refuse, say, begins, shown, held-by, reads-other, reads-own, reads, keeps, adds, writes-held, writes-own, wrote, abandons, log-words, finish-entries, finishes, publishes, waits, settles, free, choice, candidate, clears, reclaims, reply}
+use Rattle.history.specs.Calls.{Reply, clockLimit, place, refuse, say, begins, shown, held-by, reads-other, reads-own, reads, keeps, adds, writes-held, writes-own, wrote, abandons, log-words, finish-entries, finishes, publishes, waits, settles, free, choice, candidate, clears, reclaims, reply}
 use Rattle.history.specs.Run.{crash-feed}
 use Rattle.history.specs.Ledger.{reslot, redesk, renumber, drop-slot}
 use Rattle.history.proofs.Batch.{Words, Fit, cut-words, made-words, made-turned}
 use Rattle.history.proofs.Places.{base-apart}
 use Rattle.history.proofs.Beside.{Beside, beside-old, beside-back}
 use Rattle.history.proofs.Choice.{neqb→ne, Best, best}
-use Rattle.history.proofs.Copies.{Mem, Fresh, Apart, Found, find?, mem-put, distinct-put, length-put, length-put-own, in-word, word-in, upd-same, upd-other, Lowest, lowest?}
+use Rattle.history.proofs.Copies.{Mem, Fresh, Apart, Found, find?, mem-put, distinct-put, length-put, length-put-own, in-word, word-in, upd-same, upd-other, Lowest, firstOf?}
 use Rattle.history.proofs.Book.{ended-view}
 use Rattle.history.proofs.Invariant.{Lawful, Active, Logged, Fine, Starts, Inv}
 use Rattle.history.proofs.Moves.{Quiet, quiet, seal, place-in, place-apart, publishing, Homing, homing-final, homing-apart, settle-final, settling, Off, clearing}
@@ -236,7 +236,7 @@ module _ (N M : ℕ) (img : List ℕ) (d : Desk) (h : History) (H : Holds N M im
         keep q (reslot-own r old s q (view N img .number) cs m) (act .reserved) (act .vacant (mem-some r old cs m))
         (let x : length (put r ws cs) ≤ length cs = length-put-own r ws old cs m in let y : length cs ≤ 4 = act .lawful .few in omega arith)
         (λ u lu n w k. alone u lu n r old w m k)
-    own-done none f = go (holder M d r) (lowest? (λ t. found (find r (copies (d .session t)))) M)
+    own-done none f = go (holder M d r) (firstOf? (λ t. found (find r (copies (d .session t)))) M)
       where
         go : (o : Option ℕ) → Lowest (λ t. found (find r (copies (d .session t)))) M o → Done N M img d h (write s r ws) (writes-held (view N img) d s r b q ws cs o)
         go (some t) g = said (write s r ws) (taken t) _ (λ _. refl) (record { clock = omega arith; views = λ σ u k. refl }) (idles s b q cs _ is l (emptied s)) refl (λ _. refl)
@@ -383,7 +383,7 @@ module _ (N M : ℕ) (img : List ℕ) (d : Desk) (h : History) (H : Holds N M im
   finish-at : (s : ℕ) (x : Session) → d .session s ≡ x → s < M → Done N M img d h (finish s) (finishes N d s x)
   finish-at s idle e l = same (finish s) (refused 6) (λ _. refl) refl refl (λ _. refl)
   finish-at s (active b q []) e l = said (finish s) empty _ (λ _. refl) (record { clock = omega arith; views = λ σ u k. refl }) (idles s b q [] h e l (record { opening = refl; seals = refl; drafts = λ u n. refl; starts = λ u n. refl })) refl (λ _. refl)
-  finish-at s (active b q (c ∷ cs)) e l = go (leb limit (d .clock))
+  finish-at s (active b q (c ∷ cs)) e l = go (leb clockLimit (d .clock))
     where
       go : (t : Bool) → Done N M img d h (finish s) (cond t (refuse 10 d)
           (record { answer = sealed-at (d .clock); entries = finish-entries N (place s q) (d .clock) (c ∷ cs); desk = with-session s (sealed (d .clock) q (c ∷ cs)) d }))
@@ -473,7 +473,7 @@ module _ (N M : ℕ) (img : List ℕ) (d : Desk) (h : History) (H : Holds N M im
   settle-at s idle e l = same (settle s) (refused 6) (λ _. refl) refl refl (λ _. refl)
   settle-at s (active b q cs) e l = same (settle s) (refused 6) (λ _. refl) refl refl (λ _. refl)
   settle-at s (sealed n q cs) e l = same (settle s) (refused 6) (λ _. refl) refl refl (λ _. refl)
-  settle-at s (published f q cs) e l = settle-waits s l f q cs e (lowest (λ t. before f (d .session t)) M) (lowest? (λ t. before f (d .session t)) M)
+  settle-at s (published f q cs) e l = settle-waits s l f q cs e (firstOf (λ t. before f (d .session t)) M) (firstOf? (λ t. before f (d .session t)) M)
 
   settle-done : (s : ℕ) → Done N M img d h (settle s) (reply N M img d (settle s))
   settle-done s = go (leb M s) (nleb→lt M s)

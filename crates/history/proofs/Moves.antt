@@ -12,10 +12,10 @@ use lib.Dec.{T}
 use Rattle.history.proofs.Writes.{writes?}
 use Rattle.history.specs.Log.{Write, In, State, Occupied, Puts, Final, Oldest}
 use Rattle.history.specs.Layout.{Home}
-use Rattle.history.specs.Desk.{lowest, found, Copy, find, spot, writes, Session, idle, active, sealed, published, copies, Desk, upd, with-session}
+use Rattle.history.specs.Desk.{firstOf, found, Copy, find, spot, writes, Session, idle, active, sealed, published, copies, Desk, upd, with-session}
 use Rattle.history.specs.History.{History, last, seen-at, sealing, ending}
 use Rattle.history.specs.Calls.{place, shown}
-use Rattle.history.proofs.Copies.{Word, Found, find?, mem-one, Lowest, lowest?, Mem, Fresh, Apart, mem?, find-fresh, find-mem, in-spot, in-word, word-in, upd-same, upd-other}
+use Rattle.history.proofs.Copies.{Word, Found, find?, mem-one, Lowest, firstOf?, Mem, Fresh, Apart, mem?, find-fresh, find-mem, in-spot, in-word, word-in, upd-same, upd-other}
 use Rattle.history.proofs.Book.{Own, own-last, own-view, leb-true, ended-last, ended-own, ended-other, ended-view}
 use Rattle.history.proofs.Invariant.{Active, Logged, Fine, unpublished, kept, Starts, Live, NoOne, Inv, unpublished-copies, shown-copies, Low, low-unpublished, low-kept, low-shown, each, back, at-t, live-back, Aside, aside, excl-after}
 use Rattle.history.proofs.Beside.{Beside, beside-old, beside-back}
@@ -529,7 +529,7 @@ module _ (N M : ℕ) (v v′ : State) (d : Desk) (h : History) (p : ℕ) (inv : 
             newest = λ q x dq a. rw (em .number-same q (a .occupied .0) (not-p q (a .occupied)), em .number-same (ls .slot) (ls .puts .occupied .0) n)
                 (ls .newest q x dq (back₄ q (spot r j) x a));
           })
-          at (yes e) = inr (record { unwritten = none-else; stands = em .home-same (spot r j) (omega arith) ∙ rests (lowest (λ u. found (find r (kept (d .session u)))) M) (lowest? (λ u. found (find r (kept (d .session u)))) M) })
+          at (yes e) = inr (record { unwritten = none-else; stands = em .home-same (spot r j) (omega arith) ∙ rests (firstOf (λ u. found (find r (kept (d .session u)))) M) (firstOf? (λ u. found (find r (kept (d .session u)))) M) })
             where
               -- no log but p writes it: it would be older than the oldest
               only : (q x : ℕ) → q ≢ p → Puts (2 * M) v q (spot r j) x → ⊥

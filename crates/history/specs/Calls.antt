@@ -12,7 +12,7 @@ use Rattle.history.specs.Batch.{batch}
 use Rattle.history.specs.Layout.{base, view}
 use Rattle.history.specs.Recover.{oldest}
 use Rattle.history.specs.Batch.{laid}
-use Rattle.history.specs.Desk.{Copy, find, put, writes, flat, Session, idle, active, sealed, published, copies, Desk, with-session, lowest, holder, before}
+use Rattle.history.specs.Desk.{Copy, find, put, writes, flat, Session, idle, active, sealed, published, copies, Desk, with-session, firstOf, holder, before}
 use Rattle.history.specs.History.{Call, begin, read, write, abandon, finish, publish, settle, reclaim, Answer, refused, taken, ok, start, own, copied, home, empty, sealed-at, ended-at, wait, nothing, held, cleared}
 
 pub record Reply : Type 0 where
@@ -21,8 +21,8 @@ pub record Reply : Type 0 where
   pub desk : Desk
 
 -- L: the clock at which finish is refused
-unfoldable pub limit : ℕ
-limit = 4_611_686_018_427_387_904
+unfoldable pub clockLimit : ℕ
+clockLimit = 4_611_686_018_427_387_904
 
 -- the place of session s's slot q
 abbrev pub place : ℕ → ℕ → ℕ
@@ -113,7 +113,7 @@ finish-entries N p n cs = batch (laid (base N p + 1) (log-words cs)) (base N p) 
 abbrev pub seals-copies : ℕ → Desk → ℕ → ℕ → List Copy → Reply
 seals-copies N d s q [] = say empty (with-session s idle d)
 seals-copies N d s q (c ∷ cs) =
-    cond (leb limit (d .clock)) (refuse 10 d)
+    cond (leb clockLimit (d .clock)) (refuse 10 d)
     (record {
       answer = sealed-at (d .clock);
       entries = finish-entries N (place s q) (d .clock) (c ∷ cs);
@@ -141,7 +141,7 @@ abbrev pub settles : ℕ → Desk → ℕ → Session → Reply
 settles M d s idle = refuse 6 d
 settles M d s (active b q cs) = refuse 6 d
 settles M d s (sealed n q cs) = refuse 6 d
-settles M d s (published e q cs) = waits d s cs (lowest (λ t. before e (d .session t)) M)
+settles M d s (published e q cs) = waits d s cs (firstOf (λ t. before e (d .session t)) M)
 
 -- slot q is not that of a sealed or published transaction
 abbrev pub free : ℕ → Session → Bool

@@ -64,9 +64,9 @@ abbrev pub later : (ℕ → Bool) → ℕ → Option ℕ → Option ℕ
 later f k (some t) = some t
 later f k none = cond (f k) (some k) none
 
-unfoldable pub lowest : (ℕ → Bool) → ℕ → Option ℕ
-lowest f zero = none
-lowest f (suc k) = later f k (lowest f k)
+unfoldable pub firstOf : (ℕ → Bool) → ℕ → Option ℕ
+firstOf f zero = none
+firstOf f (suc k) = later f k (firstOf f k)
 
 abbrev pub found : Option (List ℕ) → Bool
 found none = false
@@ -74,7 +74,7 @@ found (some ws) = true
 
 -- the session that copies r
 abbrev pub holder : ℕ → Desk → ℕ → Option ℕ
-holder M d r = lowest (λ t. found (find r (copies (d .session t)))) M
+holder M d r = firstOf (λ t. found (find r (copies (d .session t)))) M
 
 -- the session is active with a start below e
 abbrev pub before : ℕ → Session → Bool

@@ -139,12 +139,13 @@ note c a L = record { desk = redesk c a (L .number) (L .desk); number = renumber
 
 -- ---- the answer that is due
 
-abbrev pub four : List ℕ → List ℕ
-four ws = getD ws 0 0 ∷ getD ws 1 0 ∷ getD ws 2 0 ∷ getD ws 3 0 ∷ []
+-- four words of a list: a record as it stands at home
+abbrev pub fourWords : List ℕ → List ℕ
+fourWords ws = getD ws 0 0 ∷ getD ws 1 0 ∷ getD ws 2 0 ∷ getD ws 3 0 ∷ []
 
 abbrev pub due-other : History → ℕ → ℕ → Option (List ℕ) → Answer
 due-other h r b (some ws) = copied ws
-due-other h r b none = home (four (seen-at h b r))
+due-other h r b none = home (fourWords (seen-at h b r))
 
 abbrev pub due-own : History → ℕ → ℕ → Session → Option (List ℕ) → Answer
 due-own h r b x (some ws) = own ws

@@ -11,7 +11,7 @@ use lib.ListN.{length, length-append}
 use borrow.Author.Tests.{eqb-true, eqb-false, eq-eqb, ne-eqb}
 use Rattle.layout.specs.Entries.{Entry, store, fence, Write, stores, shift, notAgain, once, endsFenced}
 use Rattle.layout.specs.Image.{homeAt}
-use Rattle.layout.specs.Log.{homeWrites, homesWrites, placeWrites, bodyWrites, logEntries}
+use Rattle.layout.specs.Homes.{homeWrites, homesWrites}
 use Rattle.layout.proofs.Says.{by-test}
 
 -- index i is not among the writes, and no index is there twice
@@ -101,17 +101,6 @@ homes-distinct rec words (suc k) h =
     (homes-avoid rec words (rec k) k (λ j l e. h j k l (omega arith) (sym e)))
     (home-ascending (rec k) (words k))
 
-place-ascending : (j r : ℕ) (ws : List ℕ) → Ascending (2 + 5 * j) (2 + 5 * suc j) (placeWrites j r ws)
-place-ascending j r ws = (omega arith, (omega arith, (omega arith, (omega arith, (omega arith, omega arith)))))
-
--- the body of a log
-pub body-ascending : (rec : ℕ → ℕ) (words : ℕ → List ℕ) (count k : ℕ) → Ascending 1 (2 + 5 * k) (bodyWrites rec words count k)
-unfolding bodyWrites
-body-ascending rec words count zero = (omega arith, omega arith)
-body-ascending rec words count (suc k) =
-    ascending-append 1 (2 + 5 * k) (2 + 5 * suc k) (bodyWrites rec words count k) (placeWrites k (rec k) (words k))
-    (body-ascending rec words count k) (place-ascending k (rec k) (words k))
-
 pub length-homes : (rec : ℕ → ℕ) (words : ℕ → List ℕ) (k : ℕ) → length (homesWrites rec words k) ≡ 4 * k
 unfolding homesWrites
 length-homes rec words zero = refl
@@ -125,12 +114,6 @@ unfolding homesWrites
 homes-same rec rec′ words words′ zero h = refl
 homes-same rec rec′ words words′ (suc k) h =
     rw (homes-same rec rec′ words words′ k (λ j l. h j (omega arith)), h k (omega arith) .0, h k (omega arith) .1)
-
-pub length-body : (rec : ℕ → ℕ) (words : ℕ → List ℕ) (count k : ℕ) → length (bodyWrites rec words count k) ≡ 1 + 5 * k
-unfolding bodyWrites
-length-body rec words count zero = refl
-length-body rec words count (suc k) =
-    omega (arith, length-body rec words count k, length-append (bodyWrites rec words count k) (placeWrites k (rec k) (words k)))
 
 pub length-stores : (ws : List Write) → length (stores ws) ≡ length ws
 length-stores [] = refl
@@ -183,22 +166,3 @@ ends-shift base (store i w ∷ store j v ∷ es) = ends-shift base (store j v �
 ends-shift base (store i w ∷ fence ∷ es) = ends-shift base (fence ∷ es)
 ends-shift base (fence ∷ store j v ∷ es) = ends-shift base (store j v ∷ es)
 ends-shift base (fence ∷ fence ∷ es) = ends-shift base (fence ∷ es)
-
--- ---- a log
-
-pub log-length : (persist : ℕ) (rec : ℕ → ℕ) (words : ℕ → List ℕ) (count : ℕ) → length (logEntries persist rec words count) ≡ 5 * count + 4
-log-length persist rec words count =
-    omega (
-      arith,
-      length-append (stores (bodyWrites rec words count count)) (fence ∷ store 0 persist ∷ fence ∷ []),
-      length-stores (bodyWrites rec words count count),
-      length-body rec words count count,
-    )
-
-pub log-once : (persist : ℕ) (rec : ℕ → ℕ) (words : ℕ → List ℕ) (count : ℕ) → once (logEntries persist rec words count) ≡ true
-log-once persist rec words count =
-    once-group (bodyWrites rec words count count) (store 0 persist ∷ fence ∷ [])
-    (ascending-distinct 1 (2 + 5 * count) (bodyWrites rec words count count) (body-ascending rec words count count)) refl
-
-pub log-ends : (persist : ℕ) (rec : ℕ → ℕ) (words : ℕ → List ℕ) (count : ℕ) → endsFenced (logEntries persist rec words count) ≡ true
-log-ends persist rec words count = ends-append (stores (bodyWrites rec words count count)) fence (store 0 persist ∷ fence ∷ []) refl

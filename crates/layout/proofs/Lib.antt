@@ -1,5 +1,8 @@
+pub mod BelowLaws
+pub mod ChecksLaws
 pub mod Says
 pub mod Shape
-pub mod Least
 pub mod Groups
-pub mod LogFacts
+pub mod TraceLaws
+pub mod Stored
+pub mod TidyLaws

@@ -7,7 +7,8 @@ use mathlib.Core.Logic.{_⊎_, inl, inr, ⊎-elim}
 use native.Mathlib.Omega.{arith}
 use lib.Dec.{leb, ltb, eqb}
 use borrow.Author.Tests.{lt-ltb, le-leb, eq-eqb, ne-eqb, ltb-true, leb-true, eqb-true, eqb-false, not-true}
-use Rattle.layout.specs.Below.{allBelow, anyBelow, all-fails, any-finds}
+use Rattle.layout.specs.Below.{allBelow, anyBelow}
+use Rattle.layout.proofs.BelowLaws.{all-fails, any-finds}
 
 pub record Says (b : Bool) (P : Type 0) : Type 0 where
   pub yes : b ≡ true → P

@@ -3,8 +3,8 @@ pub mod Checks
 pub mod Image
 pub mod Entries
 pub mod Crash
-pub mod Log
-pub mod Oldest
+pub mod Homes
 pub mod Trace
+pub mod Tidy
 pub mod Lay
 pub mod Told

@@ -5,14 +5,9 @@ ghost use Prim.Native.Nat.{_+_, _*_, _≤_};
 ghost use lib.ListN.{length, set};
 ghost use Rattle.layout.specs.Entries.{store, fence, stores};
 ghost use Rattle.layout.specs.Image.{homeAt};
-ghost use Rattle.layout.specs.Log.{homeWrites, placeWrites};
+ghost use Rattle.layout.specs.Homes.{homeWrites};
 ghost use Rattle.layout.specs.Trace.{Did, Room, Fenced, wordWrites};
 use crate::index::home_at;
-
-// Words of a log slot: the persist number, and the count of copies.
-pub const PERSIST_WORD: usize = 0;
-
-pub const COUNT_WORD: usize = 1;
 
 // The index that lists a fence.
 const FENCE: u64 = 0xffff_ffff_ffff_ffff;
@@ -52,7 +47,7 @@ pub fn put_fence(trace: &mut [u64], at: usize) -> usize
 }
 
 // A record's four words, from word i of the part on.
-fn put_words(
+pub fn put_words(
     part: &mut [u64],
     base: u64,
     trace: &mut [u64],
@@ -67,24 +62,6 @@ fn put_words(
     let b = put_store(part, base, trace, a, i + 1, words[1]);
     let c = put_store(part, base, trace, b, i + 2, words[2]);
     put_store(part, base, trace, c, i + 3, words[3])
-}
-
-// Copy place `place` of the slot that starts at `base`: record number, record words.
-pub fn put_place(
-    slot: &mut [u64],
-    base: u64,
-    trace: &mut [u64],
-    at: usize,
-    place: usize,
-    rec: u64,
-    words: [u64; 4],
-) -> usize
-    requires { ⌜ Room 5 base (2 + 5 * place) at (now slot) (now trace) ⌝ }
-    ensures { λ r. ⌜ Did (stores (placeWrites place rec words)) base at (now (slot .entry)) (now (trace .entry)) (now (slot .exit)) (now (trace .exit)) r ⌝ }
-{
-    let i = 2 + 5 * place;
-    let next = put_store(slot, base, trace, at, i, rec);
-    put_words(slot, base, trace, next, i + 1, words)
 }
 
 // A record's four words to its home in the image.

@@ -11,10 +11,10 @@ pub fn fill(input: &mut [u8], mut s: State) -> State
 {
     let at = s.at;
     let have = s.have;
-    let now = feed::refill(input, at, have);
+    let came = feed::refill(input, at, have);
     s.at = 0;
-    s.have = now;
-    s.ended = now <= have - at;
+    s.have = have - at + came;
+    s.ended = came == 0;
     s
 }
 
@@ -24,7 +24,7 @@ pub fn flush(output: &[u8], mut s: State) -> State
     ensures { λ r. ⌜ (r .at ≡ s .at) × (r .have ≡ s .have) × (r .put ≡ 0) × (r .number ≡ s .number) ⌝ }
 {
     let put = s.put;
-    let done = io::write_all(1, &output[..put]);
+    let done = feed::write_out(output, put);
     s.put = 0;
     s.stopped = !done;
     s

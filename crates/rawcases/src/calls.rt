@@ -11,7 +11,7 @@ use crate::told::reclaim_told;
 use crate::told::recover_told;
 use crate::told::settle_told;
 use crate::told::write_told;
-use desk::Desk;
+use store::Desk;
 
 // A call by its number, and its arguments but the desk, the image and the strip.
 pub struct Request {
@@ -43,7 +43,7 @@ fn gives(t: Told, words: [u64; 4], entries: u64, desk: Desk) -> Answered {
 }
 
 fn call_lay(image: &mut [u64], desk: Desk, n: u64, m: u64) -> Answered {
-    let a = layout::lay(image, n, m);
+    let a = store::lay(image, n, m);
     gives(lay_told(a), [0; 4], 0, desk)
 }
 

@@ -11,7 +11,7 @@ use crate::desk_words::put_desk;
 use crate::digest::digest;
 use crate::input::image_size;
 use crate::input::strip_size;
-use desk::Desk;
+use store::Desk;
 
 fn request_of(words: &[u64]) -> Request
     requires { ⌜ length (now words) ≡ 2454 ⌝ }

@@ -3,10 +3,10 @@
 ghost use mathlib.Core.Path.{_≡_};
 ghost use Prim.Native.Nat.{_+_, _≤_};
 ghost use lib.ListN.{length};
-use desk::Desk;
-use desk::Phase;
-use desk::RecordCopy;
-use desk::Session;
+use store::Desk;
+use store::Phase;
+use store::RecordCopy;
+use store::Session;
 
 fn phase_of(kind: u64, number: u64) -> Phase {
     match kind {

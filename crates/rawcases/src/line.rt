@@ -7,7 +7,7 @@ fn put_ended(out: &mut [u8], at: usize, n: u64, end: u8) -> usize
     requires { ⌜ at + 21 ≤ length (now out) ⌝ }
     ensures { λ r. ⌜ r ≤ at + 21 ⌝ }
 {
-    let next = steps::put_number(out, at, n);
+    let next = lines::put_number(out, at, n);
     out[next] = end;
     next + 1
 }

@@ -1,11 +1,11 @@
 // The answers of the calls as numbers: the refusal's number, or 20 ok, 21 start, 22 own, 23 copy, 24 home, 25 empty, 26 sealed, 27 end, 28 wait,
 // 29 none, 30 held, 31 cleared, 32 clean, 33 replayed.
-use desk::AbandonAnswer;
-use desk::BeginAnswer;
-use desk::PublishAnswer;
-use layout::LayAnswer;
+use store::AbandonAnswer;
+use store::BeginAnswer;
 use store::FinishAnswer;
+use store::LayAnswer;
 use store::OpenAnswer;
+use store::PublishAnswer;
 use store::ReadAnswer;
 use store::ReclaimAnswer;
 use store::RecoverAnswer;

@@ -11,7 +11,7 @@ use lib.ListN.{length, getD, set, take, drop, length-set, length-drop}
 use lib.Seq.{set-out, drop-cons, take-all, take-length}
 use borrow.Author.Tests.{eqb-true, ltb-true, ltb-false}
 use Rattle.layout.specs.Entries.{Entry, store, fence, made, encoded, listed}
-use Rattle.steps.specs.Cut.{overlaid, arrived, replayed, arriving, cutBack}
+use Rattle.steps.specs.Cut.{overlaid, entryMade, replayed, arriving, cutBack}
 
 -- a turn of keep
 pub copy-more : (i : ℕ) (xs ys : List ℕ) → i < length xs → i < length ys
@@ -45,10 +45,10 @@ arrived-by true i w img e h = sym (set-out img i w (omega (arith, eqb-true i 0xf
 arrived-by false i w img e h = refl
 
 -- the index of a fence is past the end of every image that a machine holds
-pub arrived-set : (i w : ℕ) (img : List ℕ) → length img ≤ 0xffff_ffff_ffff_ffff → arrived i w img ≡ set img i w
+pub arrived-set : (i w : ℕ) (img : List ℕ) → length img ≤ 0xffff_ffff_ffff_ffff → entryMade i w img ≡ set img i w
 arrived-set i w img h = arrived-by (eqb i 0xffff_ffff_ffff_ffff) i w img refl h
 
-pub arrived-out : (i w : ℕ) (img : List ℕ) → length img ≤ 0xffff_ffff_ffff_ffff → length img ≤ i → arrived i w img ≡ img
+pub arrived-out : (i w : ℕ) (img : List ℕ) → length img ≤ 0xffff_ffff_ffff_ffff → length img ≤ i → entryMade i w img ≡ img
 arrived-out i w img h k = arrived-set i w img h ∙ set-out img i w k
 
 add-two : (n : ℕ) → n + 2 ≡ suc (suc n)
@@ -56,7 +56,7 @@ add-two n = omega arith
 
 -- a turn of replay
 pub replay-more : (left at : ℕ) (trace img : List ℕ) → 0 < left → 1 < length trace - at
-    → replayed left (drop at trace) img ≡ replayed (left - 1) (drop (at + 2) trace) (arrived (getD trace at 0) (getD trace (at + 1) 0) img)
+    → replayed left (drop at trace) img ≡ replayed (left - 1) (drop (at + 2) trace) (entryMade (getD trace at 0) (getD trace (at + 1) 0) img)
 replay-more zero at trace img h k = absurd (omega arith)
 replay-more (suc m) at trace img h k =
     let e : suc m - 1 ≡ m = omega arith in

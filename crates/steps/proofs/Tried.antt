@@ -2,16 +2,16 @@
 use mathlib.Core.Path.{_≡_, refl}
 use mathlib.Core.List.{List, [], _∷_}
 use Prim.Native.Nat.{ℕ}
-use Rattle.steps.specs.Bytes.{little}
-use Rattle.steps.specs.Steps.{stepOf, wordsOf, noWords, none, decodeOf}
-use Rattle.steps.specs.Line.{spelled, decimalOf, stepHead}
+use Rattle.codec.specs.Bytes.{little}
+use Rattle.codec.specs.Steps.{stepOf, wordsOf, noWords, none, decodeOf}
+use Rattle.lines.specs.Line.{spelled, decimalOf, stepHead}
 use Rattle.steps.specs.Cut.{cutBack}
-use Rattle.steps.specs.Result.{outcomeText, stepLine, badLine, replayedLine, openLine}
-use Rattle.steps.specs.declared.step.Step.{Step}
-use Rattle.steps.specs.declared.step.Step.the-variants.{Lay, Begin, Read, Write, Finish, Publish, Settle, Reclaim, Abandon, Cut}
-use Rattle.steps.specs.declared.step.Outcome.the-variants.{Refused, Ok, Start, End as Ended, Sealed, Empty, Own, Copy, Home, Wait, None, Held, Cleared, Cut as WasCut, Noted}
-use Rattle.steps.specs.declared.decoding.Found.the-variants.{Whole, Bad, Short, End}
-use Rattle.steps.specs.declared.decoding.Decoded.{Decoded}
+use Rattle.lines.specs.Result.{outcomeText, stepLine, badLine, replayedLine, openLine}
+use Rattle.codec.specs.declared.step.Step.{Step}
+use Rattle.codec.specs.declared.step.Step.the-variants.{Lay, Begin, Read, Write, Finish, Publish, Settle, Reclaim, Abandon, Cut}
+use Rattle.lines.specs.declared.outcome.Outcome.the-variants.{Refused, Ok, Start, End as Ended, Sealed, Empty, Own, Copy, Home, Wait, None, Held, Cleared, Cut as WasCut, Noted}
+use Rattle.codec.specs.declared.decoding.Found.the-variants.{Whole, Bad, Short, End}
+use Rattle.codec.specs.declared.decoding.Decoded.{Decoded}
 
 -- the whole case, line for line
 whole-case : _≡_ {A = List (List ℕ)}

@@ -13,26 +13,26 @@ use Rattle.desk.specs.declared.publish.PublishAnswer.{PublishAnswer}
 use Rattle.desk.specs.declared.publish.PublishAnswer.the-variants.{Refused as PublishRefused, End as Ended}
 use Rattle.desk.specs.declared.abandon.AbandonAnswer.{AbandonAnswer}
 use Rattle.desk.specs.declared.abandon.AbandonAnswer.the-variants.{Refused as AbandonRefused, Ok as Abandoned}
-use Rattle.store.specs.Session.{noWords}
-use Rattle.store.specs.Read.{readReply}
-use Rattle.store.specs.Write.{writeReply}
-use Rattle.store.specs.Finish.{finishEntries, finishReply}
-use Rattle.store.specs.Settle.{settleEntries, settleReply}
-use Rattle.store.specs.Reclaim.{reclaimEntries, reclaimReply}
-use Rattle.store.specs.declared.reading.ReadAnswer.{ReadAnswer}
-use Rattle.store.specs.declared.reading.ReadAnswer.the-variants.{Refused as ReadRefused, Own as OwnRead, Copy as CopyRead, Home as HomeRead}
-use Rattle.store.specs.declared.writing.WriteAnswer.{WriteAnswer}
-use Rattle.store.specs.declared.writing.WriteAnswer.the-variants.{Refused as WriteRefused, Taken, Ok as Written}
-use Rattle.store.specs.declared.finishing.FinishAnswer.{FinishAnswer}
-use Rattle.store.specs.declared.finishing.FinishAnswer.the-variants.{Refused as FinishRefused, Empty as FinishedEmpty, Sealed as SealedAt}
-use Rattle.store.specs.declared.settling.SettleAnswer.{SettleAnswer}
-use Rattle.store.specs.declared.settling.SettleAnswer.the-variants.{Refused as SettleRefused, Wait as WaitFor, Ok as Settled}
-use Rattle.store.specs.declared.reclaiming.ReclaimAnswer.{ReclaimAnswer}
-use Rattle.store.specs.declared.reclaiming.ReclaimAnswer.the-variants.{Refused as ReclaimRefused, None as NoneLeft, Held as HeldBy, Cleared as ClearedOf}
-use Rattle.steps.specs.declared.step.Step.{Step}
-use Rattle.steps.specs.declared.step.Step.the-variants.{Lay, Begin, Read, Write, Finish, Publish, Settle, Reclaim, Abandon, Cut}
-use Rattle.steps.specs.declared.step.Outcome.{Outcome}
-use Rattle.steps.specs.declared.step.Outcome.the-variants.{Refused, Ok, Start, End, Sealed, Empty, Own, Copy, Home, Wait, None, Held, Cleared, Noted}
+use Rattle.snapshot.specs.Own.{zeroWords}
+use Rattle.snapshot.specs.Read.{readReply}
+use Rattle.snapshot.specs.Write.{writeReply}
+use Rattle.commit.specs.Finish.{finishEntries, finishReply}
+use Rattle.commit.specs.Settle.{settleEntries, settleReply}
+use Rattle.commit.specs.Reclaim.{reclaimEntries, reclaimReply}
+use Rattle.snapshot.specs.declared.reading.ReadAnswer.{ReadAnswer}
+use Rattle.snapshot.specs.declared.reading.ReadAnswer.the-variants.{Refused as ReadRefused, Own as OwnRead, Copy as CopyRead, Home as HomeRead}
+use Rattle.snapshot.specs.declared.writing.WriteAnswer.{WriteAnswer}
+use Rattle.snapshot.specs.declared.writing.WriteAnswer.the-variants.{Refused as WriteRefused, Taken, Ok as Written}
+use Rattle.commit.specs.declared.finishing.FinishAnswer.{FinishAnswer}
+use Rattle.commit.specs.declared.finishing.FinishAnswer.the-variants.{Refused as FinishRefused, Empty as FinishedEmpty, Sealed as SealedAt}
+use Rattle.commit.specs.declared.settling.SettleAnswer.{SettleAnswer}
+use Rattle.commit.specs.declared.settling.SettleAnswer.the-variants.{Refused as SettleRefused, Wait as WaitFor, Ok as Settled}
+use Rattle.commit.specs.declared.reclaiming.ReclaimAnswer.{ReclaimAnswer}
+use Rattle.commit.specs.declared.reclaiming.ReclaimAnswer.the-variants.{Refused as ReclaimRefused, None as NoneLeft, Held as HeldBy, Cleared as ClearedOf}
+use Rattle.codec.specs.declared.step.Step.{Step}
+use Rattle.codec.specs.declared.step.Step.the-variants.{Lay, Begin, Read, Write, Finish, Publish, Settle, Reclaim, Abandon, Cut}
+use Rattle.lines.specs.declared.outcome.Outcome.{Outcome}
+use Rattle.lines.specs.declared.outcome.Outcome.the-variants.{Refused, Ok, Start, End, Sealed, Empty, Own, Copy, Home, Wait, None, Held, Cleared, Noted}
 use Rattle.steps.specs.declared.applying.Applied.{Applied}
 
 -- the result that a line shows, of each call's answer
@@ -77,7 +77,7 @@ abandonOutcome Abandoned = Ok
 
 -- a step that reads nothing: four zero words
 abbrev pub givesOf : Outcome → ℕ → Desk → Applied
-givesOf o n d = record { outcome = o; words = noWords; entries = n; desk = d }
+givesOf o n d = record { outcome = o; words = zeroWords; entries = n; desk = d }
 
 -- what a step of each kind gives
 abbrev pub beginApplied : Desk → ℕ → Applied

@@ -13,15 +13,15 @@ overlaid (x ∷ xs) [] = []
 overlaid (x ∷ xs) (y ∷ ys) = x ∷ overlaid xs ys
 
 -- the image with an entry made, by the two words that the trace has for it: a fence, and an index past the end, change nothing
-abbrev pub arrived : ℕ → ℕ → List ℕ → List ℕ
-arrived i w img = cond (eqb i 0xffff_ffff_ffff_ffff) img (set img i w)
+abbrev pub entryMade : ℕ → ℕ → List ℕ → List ℕ
+entryMade i w img = cond (eqb i 0xffff_ffff_ffff_ffff) img (set img i w)
 
 -- the image with the first k entries of a trace made, as far as the trace has two words for each
 abbrev pub replayed : ℕ → List ℕ → List ℕ → List ℕ
 replayed zero trace img = img
 replayed (suc k) [] img = img
 replayed (suc k) (i ∷ []) img = img
-replayed (suc k) (i ∷ w ∷ trace) img = replayed k trace (arrived i w img)
+replayed (suc k) (i ∷ w ∷ trace) img = replayed k trace (entryMade i w img)
 
 -- k of a step with this number of entries; all, if it has fewer
 abbrev pub arriving : ℕ → ℕ → ℕ

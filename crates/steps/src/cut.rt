@@ -1,6 +1,6 @@
 // A cut: of a step that stores, only the first entries arrive.
 ghost use mathlib.Core.Path.{_≡_};
-ghost use Rattle.steps.specs.Cut.{overlaid, arrived, replayed, arriving, cutBack};
+ghost use Rattle.steps.specs.Cut.{overlaid, entryMade, replayed, arriving, cutBack};
 
 // Copies an image to a slice of the same length or longer.
 pub fn keep(image: &[u64], before: &mut [u64])
@@ -15,7 +15,7 @@ pub fn keep(image: &[u64], before: &mut [u64])
 
 // Makes one entry. The index of a fence is past the end of every image.
 fn arrive(image: &mut [u64], index: u64, word: u64)
-    ensures { λ r. ⌜ now (image .exit) ≡ arrived index word (now (image .entry)) ⌝ }
+    ensures { λ r. ⌜ now (image .exit) ≡ entryMade index word (now (image .entry)) ⌝ }
 {
     if index < image.len() as u64 {
         let i = index as usize;

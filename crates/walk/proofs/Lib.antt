@@ -1,2 +1,3 @@
-mod MakeLaws
 mod Turns
+mod WalkLaws
+mod OneTurnLaws

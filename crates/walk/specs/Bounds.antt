@@ -1,7 +1,8 @@
 -- What holds of a walk's state from turn to turn. Assumes nothing.
 use Prim.Native.Nat.{ℕ, _+_, _≤_}
 use mathlib.Core.Path.{_≡_}
-use Rattle.walk.specs.declared.state.State.{State}
+use Rattle.turns.specs.declared.state.State.{State}
+use Rattle.walk.specs.declared.turn.Taken.{Taken}
 
 -- the places lie within buffers of these lengths
 pub record Within (s : State) (input output image : ℕ) : Type 0 where
@@ -10,15 +11,10 @@ pub record Within (s : State) (input output image : ℕ) : Type 0 where
   pub written : s .put ≤ output
   pub sized : s .size ≤ image
 
--- there is room for a line, and the image lies within its memory
-pub record Ready (s : State) (output image : ℕ) : Type 0 where
-  pub room : s .put + 256 ≤ output
-  pub sized : s .size ≤ image
-
--- the input and the number are as they were; the lines and the image end within these bounds
-pub record Follows (s r : State) (output image : ℕ) : Type 0 where
-  pub from : r .at ≡ s .at
-  pub held : r .have ≡ s .have
-  pub numbered : r .number ≡ s .number
-  pub written : r .put ≤ output
-  pub sized : r .size ≤ image
+-- the turn that comes leaves the state as it is, but for the step that it takes
+pub record Comes (s : State) (t : Taken) : Type 0 where
+  pub from : t .state .at ≤ t .state .have
+  pub held : t .state .have ≡ s .have
+  pub written : t .state .put ≡ s .put
+  pub sized : t .state .size ≡ s .size
+  pub numbered : t .state .number ≤ s .number + 1

@@ -2,16 +2,16 @@
 use Prim.Native.Nat.{ℕ, _-_}
 use mathlib.Core.List.{List}
 use mathlib.Core.Bool.{Bool, not, _&&_, cond}
-use lib.ListN.{take, drop}
 use lib.Dec.{ltb, eqb}
-use Rattle.steps.specs.Steps.{noWords, decodeOf}
-use Rattle.steps.specs.declared.step.Step.{Step}
-use Rattle.steps.specs.declared.step.Step.the-variants.{Lay, Begin, Read, Write, Finish, Publish, Settle, Reclaim, Abandon, Cut}
-use Rattle.steps.specs.declared.decoding.Found.{Found}
-use Rattle.steps.specs.declared.decoding.Found.the-variants.{Whole, Bad as Unknown, Short, End as Nothing}
-use Rattle.steps.specs.declared.decoding.Decoded.{Decoded}
-use Rattle.walk.specs.State.{countedOf, writtenOf}
-use Rattle.walk.specs.declared.state.State.{State}
+use Rattle.feed.specs.Feed.{heldOf}
+use Rattle.codec.specs.Steps.{noWords, decodeOf}
+use Rattle.codec.specs.declared.step.Step.{Step}
+use Rattle.codec.specs.declared.step.Step.the-variants.{Lay, Begin, Read, Write, Finish, Publish, Settle, Reclaim, Abandon, Cut}
+use Rattle.codec.specs.declared.decoding.Found.{Found}
+use Rattle.codec.specs.declared.decoding.Found.the-variants.{Whole, Bad as Unknown, Short, End as Nothing}
+use Rattle.codec.specs.declared.decoding.Decoded.{Decoded}
+use Rattle.turns.specs.State.{countedOf}
+use Rattle.turns.specs.declared.state.State.{State}
 use Rattle.walk.specs.declared.turn.Turn.{Turn}
 use Rattle.walk.specs.declared.turn.Turn.the-variants.{Open, Recover, Fill, Call, Lay as LayOut, Bad, End}
 use Rattle.walk.specs.declared.turn.Taken.{Taken}
@@ -53,9 +53,9 @@ decodedTurn d s =
       state = countedOf s (d .size);
     }
 
--- the next step starts the input held, input[at..have]
+-- the next step starts the bytes held
 unfoldable pub takenOf : List ℕ → State → Taken
-takenOf input s = decodedTurn (decodeOf (take (s .have - s .at) (drop (s .at) input))) s
+takenOf input s = decodedTurn (decodeOf (heldOf input (s .at) (s .have))) s
 
 -- more input may come, and fewer bytes are held than the longest step has: a write's kind and its 34 bytes of body
 abbrev pub hungryB : State → Bool
@@ -68,7 +68,3 @@ turnOf input s =
     (cond (s .lost) (asideOf Recover s)
     (cond (hungryB s) (asideOf Fill s)
     (takenOf input s)))
-
--- a turn before which lines may have been written
-abbrev pub afterWrite : Taken → ℕ → Bool → Taken
-afterWrite t put stopped = record { turn = t .turn; words = t .words; state = writtenOf (t .state) put stopped }

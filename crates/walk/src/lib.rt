@@ -1,23 +1,19 @@
-// A walk through a step stream. `run` is public for the programs above: it asks for an output buffer of 256 bytes or more, for a `before` at least
-// as long as the image, and that the bytes said to be held fit the input buffer.
-ghost use mathlib.Core.Path.{_≡_};
-ghost use Prim.Native.Nat.{_+_, _<_, _≤_};
+// A walk through a step stream. `run` is public for the programs above: it asks for a `before` at least as long as the image, and that the bytes said
+// to be held fit the input buffer, and that the output has room for a line.
+ghost use Prim.Native.Nat.{_≤_};
 ghost use lib.ListN.{length};
-ghost use Rattle.walk.specs.Bounds.{Within};
+ghost use Rattle.recovery.specs.Open.{openReply};
+ghost use Rattle.turns.specs.State.{startOf};
+ghost use Rattle.walk.specs.Walk.{worldOf, Leaves};
 
-mod buffers;
-mod making;
-mod state;
 mod turn;
+mod turning;
 
-use buffers::flush;
-use making::make;
-use making::other_turn;
-use making::tell;
-use state::opened;
-use state::start;
-use turn::Turn;
-use turn::next_turn;
+use turning::take_turn;
+use turns::start;
+
+// The most turns of a walk.
+const TURNS: u64 = 18446744073709551614;
 
 // Walks through a stream: its first `have` bytes are in the input buffer, and unless it has ended, more come from standard input. The lines go to
 // standard output.
@@ -31,38 +27,17 @@ pub fn run(
     ended: bool,
 )
     requires { ⌜ (256 ≤ length (now output)) × (have ≤ length (now input)) × (length (now image) ≤ length (now before)) ⌝ }
+    ensures { λ r. ⌜ Leaves (length (now (trace .entry))) (worldOf (now (input .entry)) (now (image .entry)) (now (output .entry)) (openReply (now (image .entry)) .desk) (startOf have ended)) (now (input .exit)) (now (image .exit)) (now (output .exit)) ⌝ }
 {
     let mut s = start(have, ended);
     let none = store::open(image);
     let mut desk = none.desk;
-    let mut turns: u64 = 18446744073709551614;
-    while 0 < turns {
-        if s.stopped {
-            flush(output, s);
-            return;
-        }
-        turns -= 1;
-        let t = next_turn(input, output, s);
-        let turn = t.turn;
-        let words = t.words;
+    let mut turns = TURNS;
+    while (0 < turns) & !s.stopped {
+        let t = take_turn(input, image, before, trace, output, desk, s);
+        desk = t.desk;
         s = t.state;
-        let size = s.size;
-        match turn {
-            Turn::Open => {
-                let r = store::open(&image[..size]);
-                desk = r.desk;
-                s = opened(s);
-            }
-            Turn::Call(step) => {
-                let a = make(&mut image[..size], before, trace, desk, step, words, s);
-                desk = a.desk;
-                let outcome = a.outcome;
-                let shown = a.words;
-                s = tell(output, s, step, outcome, shown, a.entries);
-            }
-            _ => {
-                s = other_turn(input, image, trace, output, s, turn);
-            }
-        }
+        turns -= 1;
     }
+    feed::write_out(output, s.put);
 }

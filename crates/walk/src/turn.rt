@@ -2,12 +2,12 @@
 ghost use mathlib.Core.Path.{_≡_};
 ghost use Prim.Native.Nat.{_+_, _≤_, _<_, _^_};
 ghost use lib.ListN.{length};
-ghost use Rattle.walk.specs.Turn.{stepTurn, foundTurn, asideOf, takenOf, turnOf, afterWrite};
-use crate::buffers::roomy;
-use crate::state::State;
-use crate::state::counted;
-use steps::Found;
-use steps::Step;
+ghost use Rattle.walk.specs.Bounds.{Comes};
+ghost use Rattle.walk.specs.Turn.{stepTurn, foundTurn, asideOf, takenOf, turnOf};
+use codec::Found;
+use codec::Step;
+use turns::State;
+use turns::counted;
 
 // Opens the image, makes a call of recover, reads, makes a step on the opened store, lays the image, or stops, with the line "bad" or without.
 pub enum Turn {
@@ -51,7 +51,6 @@ fn found_turn(found: Found, laid: bool) -> Turn
 
 // A turn that takes no step.
 fn aside(turn: Turn, s: State) -> Taken
-    ensures { λ r. ⌜ (r .state .at ≡ s .at) × (r .state .have ≡ s .have) × (r .state .put ≡ s .put) × (r .state .size ≡ s .size) × (r .state .number ≡ s .number) ⌝ }
     ensures { λ r. ⌜ r ≡ asideOf turn s ⌝ }
 {
     Taken {
@@ -64,12 +63,12 @@ fn aside(turn: Turn, s: State) -> Taken
 // Decodes the next step and counts it.
 fn take_step(input: &[u8], s: State) -> Taken
     requires { ⌜ (s .at ≤ s .have) × (s .have ≤ length (now input)) × (s .number + 1 < 2 ^ 64) ⌝ }
-    ensures { λ r. ⌜ (r .state .at ≤ r .state .have) × (r .state .have ≡ s .have) × (r .state .put ≡ s .put) × (r .state .size ≡ s .size) × (r .state .number ≡ s .number + 1) ⌝ }
+    ensures { λ r. ⌜ Comes s r ⌝ }
     ensures { λ r. ⌜ r ≡ takenOf (now (input .entry)) s ⌝ }
 {
     let at = s.at;
     let have = s.have;
-    let d = steps::decode(&input[at..have]);
+    let d = codec::decode(&input[at..have]);
     let bytes = d.size;
     let words = d.words;
     let found = d.found;
@@ -81,10 +80,10 @@ fn take_step(input: &[u8], s: State) -> Taken
     }
 }
 
-// What to do with room for a line. It reads where the input held may be less than a step, and more may come.
-fn turn_of(input: &[u8], s: State) -> Taken
+// The next turn. It reads where the bytes held may be less than a step, and more may come.
+pub fn next_turn(input: &[u8], s: State) -> Taken
     requires { ⌜ (s .at ≤ s .have) × (s .have ≤ length (now input)) × (s .number + 1 < 2 ^ 64) ⌝ }
-    ensures { λ r. ⌜ (r .state .at ≤ r .state .have) × (r .state .have ≡ s .have) × (r .state .put ≡ s .put) × (r .state .size ≡ s .size) × (r .state .number ≤ s .number + 1) ⌝ }
+    ensures { λ r. ⌜ Comes s r ⌝ }
     ensures { λ r. ⌜ r ≡ turnOf (now (input .entry)) s ⌝ }
 {
     if s.closed {
@@ -98,14 +97,4 @@ fn turn_of(input: &[u8], s: State) -> Taken
         return aside(Turn::Fill, s);
     }
     take_step(input, s)
-}
-
-// The next turn; where there is little room for its line, the lines put so far are written first.
-pub fn next_turn(input: &[u8], output: &[u8], s: State) -> Taken
-    requires { ⌜ (s .at ≤ s .have) × (s .have ≤ length (now input)) × (s .put ≤ length (now output)) × (256 ≤ length (now output)) × (s .number + 1 < 2 ^ 64) ⌝ }
-    ensures { λ r. ⌜ (r .state .at ≤ r .state .have) × (r .state .have ≡ s .have) × (r .state .put + 256 ≤ length (now (output .entry))) × (r .state .size ≡ s .size) × (r .state .number ≤ s .number + 1) ⌝ }
-    ensures { λ r. ⌜ r ≡ afterWrite (turnOf (now (input .entry)) s) (r .state .put) (r .state .stopped) ⌝ }
-{
-    let t = roomy(output, s);
-    turn_of(input, t)
 }

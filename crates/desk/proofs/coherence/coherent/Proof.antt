@@ -63,12 +63,12 @@ mul-e-2 c = search needs
 element-copy-out-e-2 : tie.Need-element-copy-out-e-2 Inv-loop μ-loop Inv-loop2 μ-loop2
 element-copy-out-e-2 c = search needs
 
-busy-ok-requires : tie.Need-busy-ok-requires Inv-loop μ-loop Inv-loop2 μ-loop2
-busy-ok-requires c κs = search needs
+entry-ok-requires : tie.Need-entry-ok-requires Inv-loop μ-loop Inv-loop2 μ-loop2
+entry-ok-requires c κs = search needs
 
 returns-3 : tie.Need-returns-3 Inv-loop μ-loop Inv-loop2 μ-loop2
 returns-3 c =
-    walk-fails ((c .before .before .before .before .before) .loop2 .inv .1) (search needs) (sym ((c .before) .busy-ok .ensures .0) ∙ not-true _ (c .if3 .taken))
+    walk-fails ((c .before .before .before .before .before) .loop2 .inv .1) (search needs) (sym ((c .before) .entry-ok .ensures .0) ∙ not-true _ (c .if3 .taken))
 
 sealed-one-requires : tie.Need-sealed-one-requires Inv-loop μ-loop Inv-loop2 μ-loop2
 sealed-one-requires c κs = search needs
@@ -85,8 +85,8 @@ loop2-less c = search needs
 loop2-again : tie.Need-loop2-again Inv-loop μ-loop Inv-loop2 μ-loop2
 loop2-again c = (
   search needs,
-  rw ((c .before .before) .busy-ok .ensures .1, c .sealed-one .ensures)
-      (walk-turns ((c .before .before .before .before .before .before) .loop2 .inv .1) (sym ((c .before .before) .busy-ok .ensures .0) ∙ not-false _ ((c .before) .if3 .left))),
+  rw ((c .before .before) .entry-ok .ensures .1, c .sealed-one .ensures)
+      (walk-turns ((c .before .before .before .before .before .before) .loop2 .inv .1) (sym ((c .before .before) .entry-ok .ensures .0) ∙ not-false _ ((c .before) .if3 .left))),
 )
 
 add-if4 : tie.Need-add-if4 Inv-loop μ-loop Inv-loop2 μ-loop2
@@ -123,7 +123,7 @@ coherent-spec =
     loop2-holds
     mul-e-2
     element-copy-out-e-2
-    busy-ok-requires
+    entry-ok-requires
     returns-3
     sealed-one-requires
     add-sealed

@@ -1,4 +1,4 @@
-use Rattle.desk.specs.Strike.{struckPlaces, sessionT}
+use Rattle.desk.specs.Strike.{struckPlaces, sessionPasses}
 use borrow.Author.Needs.{needs}
 use Rattle.desk.proofs.coherence.session_ok.Statement.{statement}
 use Rattle.desk.proofs.coherence.session_ok.Tie as tie
@@ -37,7 +37,7 @@ place-requires-4 : tie.Need-place-requires-4
 place-requires-4 c κs = search needs
 
 returns : tie.Need-returns
-unfolding sessionT struckPlaces
+unfolding sessionPasses struckPlaces
 returns c =
     let c3 = c .before .before in
     let c2 = c3 .before .before in

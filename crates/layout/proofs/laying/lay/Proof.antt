@@ -2,7 +2,7 @@ use Prim.Native.Nat.{_≤_}
 use Rattle.layout.proofs.Shape.{lay-size}
 use Rattle.layout.specs.declared.laying.LayAnswer.the-variants.{Refused, Laid}
 use Rattle.layout.specs.Lay.{layFault, layAnswer, laidImage, emptyImage}
-use Rattle.layout.specs.Checks.{answered-zero, answered-not}
+use Rattle.layout.proofs.ChecksLaws.{answered-zero, answered-not}
 use Rattle.layout.specs.Image.{sizeOf}
 use native.Mathlib.Omega.{arith}
 use lib.ListN.{length, replicate, set, length-set, length-replicate}

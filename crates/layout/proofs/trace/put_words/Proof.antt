@@ -1,5 +1,5 @@
 use borrow.Author.Needs.{needs}
-use Rattle.layout.specs.Trace.{and-then}
+use Rattle.layout.proofs.TraceLaws.{and-then}
 use Rattle.layout.proofs.trace.put_words.Statement.{statement}
 use Rattle.layout.proofs.trace.put_words.Tie as tie
 

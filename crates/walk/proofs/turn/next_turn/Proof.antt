@@ -1,40 +1,51 @@
-use Prim.Native.Nat.{ℕ}
-use mathlib.Core.Bool.{Bool, true, false, cond}
-use mathlib.Core.List.{List}
-use mathlib.Core.Path.{_≡_, refl, ap, _∙_}
-use Rattle.walk.specs.declared.state.State.{State}
-use Rattle.walk.specs.declared.turn.Turn.the-variants.{Open, Recover, Fill}
-use Rattle.walk.specs.declared.turn.Taken.{Taken}
-use Rattle.walk.specs.State.{writtenOf}
-use Rattle.walk.specs.Turn.{afterWrite, asideOf, takenOf, hungryB, turnOf}
+use Rattle.walk.proofs.Turns.{aside-comes}
+use mathlib.Core.Path.{_∙_}
+use Rattle.walk.specs.Turn.{turnOf}
 use borrow.Author.Needs.{needs}
 use Rattle.walk.proofs.turn.next_turn.Statement.{statement}
 use Rattle.walk.proofs.turn.next_turn.Tie as tie
 
--- a function of a choice is the choice of its values
-chosen : (f : Taken → Taken) (a b c : Bool) (w x y z : Taken) → cond a (f w) (cond b (f x) (cond c (f y) (f z))) ≡ f (cond a w (cond b x (cond c y z)))
-chosen f true b c w x y z = refl
-chosen f false true c w x y z = refl
-chosen f false false true w x y z = refl
-chosen f false false false w x y z = refl
-
--- which turn comes does not depend on the lines that were written
-written : (input : List ℕ) (s : State) (put : ℕ) (stopped : Bool) → turnOf input (writtenOf s put stopped) ≡ afterWrite (turnOf input s) put stopped
-unfolding turnOf takenOf
-written input s put stopped = chosen (λ (t : Taken). afterWrite t put stopped) (s .closed) (s .lost) (hungryB s) (asideOf Open s) (asideOf Recover s) (asideOf Fill s) (takenOf input s)
-
--- the room and the end of the output, by the turn's own state
-own : {r : Taken} (t : Taken) {put : ℕ} {stopped : Bool} → r ≡ afterWrite t put stopped → r ≡ afterWrite t (r .state .put) (r .state .stopped)
-own t e = rw e
-
-roomy-requires : tie.Need-roomy-requires
-roomy-requires c κs = search needs
-
-turn-of-requires : tie.Need-turn-of-requires
-turn-of-requires c κs = search needs
+aside-requires : tie.Need-aside-requires
+aside-requires c κs = search needs
 
 returns : tie.Need-returns
-returns c = (search needs, own (turnOf _ _) (c .turn-of .ensures .1 ∙ (ap (turnOf _) ((c .before) .roomy .ensures .1) ∙ written _ _ _ _)))
+unfolding turnOf
+returns c = (aside-comes (search needs) (c .aside .ensures), c .aside .ensures ∙ simp ((c .before) .if1 .taken))
+
+aside-requires-2 : tie.Need-aside-requires-2
+aside-requires-2 c κs = search needs
+
+returns-2 : tie.Need-returns-2
+unfolding turnOf
+returns-2 c = (aside-comes (search needs) (c .aside2 .ensures), c .aside2 .ensures ∙ simp ((c .before .before) .if1 .left, (c .before) .if2 .taken))
+
+sub-if3 : tie.Need-sub-if3
+sub-if3 c = search needs
+
+aside-requires-3 : tie.Need-aside-requires-3
+aside-requires-3 c κs = search needs
+
+returns-3 : tie.Need-returns-3
+unfolding turnOf
+returns-3 c = (aside-comes (search needs) (c .aside3 .ensures), c .aside3 .ensures ∙ simp ((c .before .before .before .before) .if1 .left, (c .before .before .before) .if2 .left, (c .before) .if3 .taken))
+
+take-step-requires : tie.Need-take-step-requires
+take-step-requires c κs = search needs
+
+returns-4 : tie.Need-returns-4
+unfolding turnOf
+returns-4 c = (search needs, c .take-step .ensures .1 ∙ simp ((c .before .before .before .before) .if1 .left, (c .before .before .before) .if2 .left, (c .before) .if3 .left))
 
 pub next-turn-spec : {M : Type 1} → statement M
-next-turn-spec = tie.close (tie.spec roomy-requires turn-of-requires returns)
+next-turn-spec =
+    tie.close
+    (tie.spec
+    aside-requires
+    returns
+    aside-requires-2
+    returns-2
+    sub-if3
+    aside-requires-3
+    returns-3
+    take-step-requires
+    returns-4)

@@ -4,9 +4,9 @@ use mathlib.Core.List.{List, [], _∷_}
 use mathlib.Core.Path.{_≡_, refl}
 use types.Run.{OneOf, miss}
 use denote.Enum.Declared.{tagOf}
-use Rattle.steps.proofs.step.Step.{the-type}
-use Rattle.steps.specs.declared.step.Step.{Step}
-use Rattle.steps.specs.declared.step.Step.the-variants.{Lay, Begin, Read, Write, Finish, Publish, Settle, Reclaim, Abandon, Cut}
+use Rattle.codec.proofs.step.Step.{the-type}
+use Rattle.codec.specs.declared.step.Step.{Step}
+use Rattle.codec.specs.declared.step.Step.the-variants.{Lay, Begin, Read, Write, Finish, Publish, Settle, Reclaim, Abandon, Cut}
 use Rattle.walk.specs.Turn.{callTurn, stepTurn}
 use borrow.Author.Needs.{needs}
 use Rattle.walk.proofs.turn.step_turn.Statement.{statement}

@@ -3,22 +3,23 @@ use mathlib.Core.Path.{_≡_, refl, sym, _∙_}
 use mathlib.Core.Bool.{true, false}
 use Rattle.desk.specs.Desk.{sessionAt, isSealed}
 use borrow.Author.Tests.{not-true, not-false}
-use Rattle.layout.specs.Checks.{answered-refused, answered-next, answered-done}
-use Rattle.desk.proofs.Entered.{Entered, entryFault, entered, clock-moves}
+use Rattle.layout.proofs.ChecksLaws.{answered-refused, answered-next, answered-done}
+use Rattle.desk.proofs.DeskEntered.{DeskEntered, desk-entered, clock-moves}
+use Rattle.desk.specs.Entering.{deskFault}
 use Rattle.desk.specs.Publish.{publishReply, publishFault, publishRefused}
 use borrow.Author.Needs.{needs}
 use Rattle.desk.proofs.state.Desk.publish.Statement.{statement}
 use Rattle.desk.proofs.state.Desk.publish.Tie as tie
 
-fault-is : (c : tie.After-common-fault) → c .common-fault .result ≡ entryFault (c .before .before .args .t1) (c .before .before .args .session)
-fault-is c = rw (c .before .coherent .ensures) at (c .common-fault .ensures)
+fault-is : (c : tie.After-session-fault) → c .session-fault .result ≡ deskFault (c .before .before .args .t1) (c .before .before .args .session)
+fault-is c = rw (c .before .coherent .ensures) at (c .session-fault .ensures)
 
 -- past the common checks
-passed : (c : tie.Else1) → entryFault (c .before .before .before .args .t1) (c .before .before .before .args .session) ≡ 0
+passed : (c : tie.Else1) → deskFault (c .before .before .before .args .t1) (c .before .before .before .args .session) ≡ 0
 passed c = sym (fault-is (c .before)) ∙ c .if1 .left
 
-inside : (c : tie.Else1) → Entered (c .before .before .before .args .t1) (c .before .before .before .args .session)
-inside c = entered _ _ (passed c)
+inside : (c : tie.Else1) → DeskEntered (c .before .before .before .args .t1) (c .before .before .before .args .session)
+inside c = desk-entered _ _ (passed c)
 
 not-sealed : (c : tie.Then2) → isSealed (sessionAt (c .before .before .before .before .before .before .args .t1) (c .before .before .before .before .before .before .args .session) .phase) ≡ false
 not-sealed c = sym (c .before .is-sealed .ensures) ∙ not-true _ (c .if2 .taken)
@@ -29,8 +30,8 @@ was-sealed c = sym (c .before .is-sealed .ensures) ∙ not-false _ (c .if2 .left
 coherent-requires : tie.Need-coherent-requires
 coherent-requires c κs = search needs
 
-common-fault-requires : tie.Need-common-fault-requires
-common-fault-requires c κs = search needs
+session-fault-requires : tie.Need-session-fault-requires
+session-fault-requires c κs = search needs
 
 returns : tie.Need-returns
 unfolding publishReply publishFault
@@ -70,7 +71,7 @@ publish-spec =
     tie.close
     (tie.spec
     coherent-requires
-    common-fault-requires
+    session-fault-requires
     returns
     mul-e
     element-copy-out-e

@@ -1,0 +1,24 @@
+-- Laws of every list of entries (document 01, "Stores and fences").
+use Prim.Native.Nat.{ℕ, _+_, _*_}
+use mathlib.Core.Path.{_≡_}
+use mathlib.Core.List.{List}
+use lib.ListN.{length}
+use Rattle.layout.specs.Tidy.{Tidy}
+use Rattle.journal.specs.Log.{countOf}
+use Rattle.desk.specs.Desk.{sessionAt}
+use Rattle.desk.specs.declared.state.Desk.{Desk}
+use Rattle.commit.specs.Finish.{finishFault, finishEntries, sealEntries, finishReply}
+use Rattle.commit.specs.Settle.{settleFault, settleEntries, goHomeEntries, settleReply}
+use Rattle.commit.specs.Reclaim.{reclaimFault, reclaimEntries, clearEntries, reclaimReply}
+use Rattle.recovery.specs.Recover.{logAt, recoverFault, recoverEntries, replayEntries, recoverReply}
+
+pub record Lists : Type 0 where
+  pub finish : (img : List ℕ) (d : Desk) (len s : ℕ) → Tidy (finishFault img d len s) (finishReply img d len s .entries) (finishEntries img d len s)
+  pub settle : (img : List ℕ) (d : Desk) (len s : ℕ) → Tidy (settleFault img d len s) (settleReply img d len s .entries) (settleEntries img d len s)
+  pub reclaim : (img : List ℕ) (d : Desk) (len s : ℕ) → Tidy (reclaimFault img d len s) (reclaimReply img d len s .entries) (reclaimEntries img d len s)
+  pub recover : (img : List ℕ) (len : ℕ) → Tidy (recoverFault img len) (recoverReply img len .entries) (recoverEntries img len)
+  -- the entry counts, c being the number of copies
+  pub finish-count : (d : Desk) (s : ℕ) → length (sealEntries d s) ≡ 5 * sessionAt d s .count + 4
+  pub settle-count : (d : Desk) (s : ℕ) → length (goHomeEntries d s) ≡ 4 * sessionAt d s .count + 1
+  pub reclaim-count : (img : List ℕ) (d : Desk) (s : ℕ) → length (clearEntries img d s) ≡ 2
+  pub recover-count : (img : List ℕ) (p : ℕ) → length (replayEntries img p) ≡ 4 * countOf (logAt img p) + 3

@@ -1,0 +1,120 @@
+-- Finish, case by case.
+use Prim.Native.Nat.{ℕ, _+_, _*_, _-_, _<_, _≤_}
+use mathlib.Core.Bool.{_||_}
+use mathlib.Core.Path.{_≡_, sym, ap, _∙_}
+use mathlib.Core.List.{List, [], _++_}
+use native.Mathlib.Omega.{arith}
+use lib.Dec.{ltb, eqb}
+use lib.ListN.{length, take, drop}
+use borrow.Author.Tests.{eq-eqb, ne-eqb, leb-true}
+use Rattle.layout.specs.Checks.{unless, first}
+use Rattle.layout.proofs.ChecksLaws.{answered-refused, answered-passed, answered-zero, answered-not}
+use Rattle.layout.specs.Entries.{Entry, shift, made, listed}
+use Rattle.layout.specs.Image.{placeOf, slotAt}
+use Rattle.journal.specs.Log.{logEntries}
+use Rattle.layout.proofs.TraceLaws.{made-tail}
+use Rattle.desk.specs.Desk.{copiedRec, copiedWords, sessionAt, isActive, idleSession, withPhase, putSession}
+use Rattle.desk.specs.Coherent.{limit}
+use Rattle.desk.specs.declared.state.Phase.the-variants.{Sealed}
+use Rattle.desk.specs.declared.state.Desk.{Desk}
+use Rattle.desk.proofs.Copied.{copies-four}
+use Rattle.desk.specs.Entering.{imageFault}
+use Rattle.layout.specs.Checks.{roomFor}
+use Rattle.commit.specs.Finish.{finishFault, sealEntries, finishEntries, finishRefused, finishReply}
+use Rattle.commit.specs.declared.finishing.FinishAnswer.the-variants.{Empty, Sealed as SealedAt}
+use Rattle.commit.specs.declared.finishing.FinishReply.{FinishReply}
+use Rattle.desk.proofs.Entered.{entered}
+use Rattle.commit.proofs.Lists.{finish-length}
+
+-- past the checks 1 to 4 the session's slot lies within the image, and its log within the slot and the trace
+pub record SlotFits (img : List ℕ) (d : Desk) (len s : ℕ) : Type 0 where
+  pub small : s < 16
+  pub n-high : d .n ≤ 256
+  pub place-high : placeOf s (sessionAt d s .slot) ≤ 32
+  pub count-high : sessionAt d s .count ≤ 4
+  pub inside : slotAt (d .n) (placeOf s (sessionAt d s .slot)) + 22 ≤ length img
+  pub room : 48 ≤ len
+
+pub slot-fits : (img : List ℕ) (d : Desk) (len s : ℕ) → imageFault img d (roomFor len) s ≡ 0 → SlotFits img d len s
+slot-fits img d len s z =
+    let h = entered img d (roomFor len) s z in
+    let slot : sessionAt d s .slot ≤ 1 = h .coherent .session s (h .small) .slot-small in
+    record {
+      small = h .small;
+      n-high = h .coherent .n-high;
+      place-high = omega (arith, h .small);
+      count-high = copies-four d (h .coherent) s (h .small);
+      inside = omega (arith, h .below, h .n-same, h .m-same, h .shaped .size);
+      room = leb-true _ _ (h .room-enough);
+    }
+
+-- finish gives the reply r, with the entries es
+pub record Finishes (img : List ℕ) (d : Desk) (len s : ℕ) (r : FinishReply) (es : List Entry) : Type 0 where
+  pub reply : finishReply img d len s ≡ r
+  pub lists : finishEntries img d len s ≡ es
+
+-- the reply r, and image and trace with es made and listed, are what finish gives
+pub finished : {img : List ℕ} {d : Desk} {len s : ℕ} {r : FinishReply} {es : List Entry} → Finishes img d len s r es
+    → {x : FinishReply} {img′ t′ : List ℕ} (t : List ℕ) → x ≡ r → img′ ≡ made es img → t′ ≡ listed es t
+    → (x ≡ finishReply img d len s) × ((img′ ≡ made (finishEntries img d len s) img) × (t′ ≡ listed (finishEntries img d len s) t))
+finished h t a b c = (a ∙ sym (h .reply), (rw (h .lists) b, rw (h .lists) c))
+
+-- checks 6 and 10
+abbrev pub sealFault : Desk → ℕ → ℕ
+sealFault d s = first (unless (isActive (sessionAt d s .phase)) 6) (unless (eqb (sessionAt d s .count) 0 || ltb (d .clock) limit) 10)
+
+module _ (img : List ℕ) (d : Desk) (len s : ℕ) where
+  -- refused by 1, 2, 3 or 4
+  pub finish-refused : (k : ℕ) → k ≡ imageFault img d (roomFor len) s → (k ≡ 0 → ⊥) → Finishes img d len s (finishRefused d k) []
+  unfolding finishReply finishEntries finishFault
+  finish-refused k e n =
+      record {
+        reply = answered-refused _ _ (finishRefused d) _ (λ z. n (e ∙ z)) ∙ ap (finishRefused d) (sym e);
+        lists = answered-refused _ _ (λ k. []) _ (λ z. n (e ∙ z));
+      }
+
+  module _ (z : imageFault img d (roomFor len) s ≡ 0) where
+    -- refused by 6 or 10
+    pub finish-shut : (k : ℕ) → k ≡ sealFault d s → (k ≡ 0 → ⊥) → Finishes img d len s (finishRefused d k) []
+    unfolding finishReply finishEntries finishFault
+    finish-shut k e n =
+        record {
+          reply = answered-passed _ _ (finishRefused d) _ z ∙ answered-not _ (finishRefused d) _ (λ y. n (e ∙ y)) ∙ ap (finishRefused d) (sym e);
+          lists = answered-passed _ _ (λ k. []) _ z ∙ answered-not _ (λ k. []) _ (λ y. n (e ∙ y));
+        }
+
+    module _ (y : sealFault d s ≡ 0) where
+      -- without copies
+      pub finish-empty : sessionAt d s .count ≡ 0 → Finishes img d len s (record { answer = Empty; entries = 0; desk = putSession d s idleSession }) []
+      unfolding finishReply finishEntries finishFault
+      finish-empty e =
+          record {
+            reply = answered-passed _ _ (finishRefused d) _ z ∙ answered-zero _ (finishRefused d) _ y ∙ rw (eq-eqb _ 0 e);
+            lists = answered-passed _ _ (λ k. []) _ z ∙ answered-zero _ (λ k. []) _ y ∙ rw (eq-eqb _ 0 e);
+          }
+
+      -- with copies
+      pub finish-sealed : (sessionAt d s .count ≡ 0 → ⊥)
+          → Finishes img d len s
+          (record { answer = SealedAt (d .clock); entries = 5 * sessionAt d s .count + 4; desk = putSession d s (withPhase (sessionAt d s) (Sealed (d .clock))) })
+          (sealEntries d s)
+      unfolding finishReply finishEntries finishFault
+      finish-sealed n =
+          record {
+            reply = answered-passed _ _ (finishRefused d) _ z ∙ answered-zero _ (finishRefused d) _ y ∙ rw (ne-eqb _ 0 n, finish-length d s);
+            lists = answered-passed _ _ (λ k. []) _ z ∙ answered-zero _ (λ k. []) _ y ∙ rw (ne-eqb _ 0 n);
+          }
+
+module _ (d : Desk) (s : ℕ) where
+  -- the session's log, by places in its slot
+  abbrev log : List Entry
+  log = logEntries (d .clock) (copiedRec (sessionAt d s)) (copiedWords (sessionAt d s)) (sessionAt d s .count)
+
+  module _ (from : ℕ) (e : from ≡ slotAt (d .n) (placeOf s (sessionAt d s .slot))) where
+    -- written to the part of the image that starts at the slot
+    pub sealed-image : (img part : List ℕ) → part ≡ made log (take (length img - from) (drop from img))
+        → take from img ++ (part ++ drop (length img - from) (drop from img)) ≡ made (sealEntries d s) img
+    sealed-image img part m = made-tail from log img part m ∙ ap (λ b. made (shift b log) img) e
+
+    pub sealed-trace : (t t′ : List ℕ) → t′ ≡ listed (shift from log) t → t′ ≡ listed (sealEntries d s) t
+    sealed-trace t t′ l = l ∙ ap (λ b. listed (shift b log) t) e

@@ -1,0 +1,4 @@
+pub mod Lists
+pub mod FinishLaws
+pub mod SettleLaws
+pub mod ReclaimLaws

@@ -1,0 +1,89 @@
+-- Every list of entries of finish, settle and reclaim is tidy.
+use Prim.Native.Nat.{ℕ, _+_, _*_}
+use mathlib.Core.Path.{_≡_, refl, _∙_}
+use mathlib.Core.List.{List, [], _∷_}
+use native.Mathlib.Omega.{arith}
+use lib.ListN.{length, length-append}
+use lib.Dec.{eqb}
+use Rattle.layout.specs.Entries.{Entry, fence, Write, stores}
+use Rattle.layout.specs.Homes.{homesWrites}
+use Rattle.layout.specs.Checks.{roomFor}
+use Rattle.layout.specs.Image.{placeOf, slotAt}
+use Rattle.layout.specs.Tidy.{Tidy}
+use Rattle.layout.proofs.ChecksLaws.{first-both}
+use Rattle.layout.proofs.TraceLaws.{length-shift}
+use Rattle.layout.proofs.TidyLaws.{tidy-none, tidy-cond, tidy-answered, tidy-list}
+use Rattle.layout.proofs.Groups.{homes-distinct, length-homes, length-stores, once-group, once-shift, ends-append, ends-shift}
+use Rattle.journal.specs.Log.{logEntries}
+use Rattle.journal.proofs.LogGroups.{log-length, log-once, log-ends}
+use Rattle.desk.specs.Desk.{copiedRec, copiedWords, sessionAt}
+use Rattle.desk.specs.Entering.{imageFault}
+use Rattle.desk.specs.declared.state.Desk.{Desk}
+use Rattle.desk.proofs.Copied.{copies-four, copies-differ}
+use Rattle.desk.proofs.Entered.{entered}
+use Rattle.commit.specs.Finish.{finishFault, finishEntries, sealEntries, finishRefused, finishReply}
+use Rattle.commit.specs.Settle.{settleFault, settleEntries, goHomeEntries, waitsB, settleRefused, settleReply}
+use Rattle.commit.specs.Reclaim.{reclaimFault, reclaimEntries, clearEntries, noneLeft, heldB, reclaimRefused, reclaimReply}
+use Rattle.commit.specs.declared.finishing.FinishReply.{FinishReply}
+use Rattle.commit.specs.declared.settling.SettleReply.{SettleReply}
+use Rattle.commit.specs.declared.reclaiming.ReclaimReply.{ReclaimReply}
+
+pub finish-length : (d : Desk) (s : ℕ) → length (sealEntries d s) ≡ 5 * sessionAt d s .count + 4
+finish-length d s =
+    length-shift (slotAt (d .n) (placeOf s (sessionAt d s .slot))) (logEntries (d .clock) (copiedRec (sessionAt d s)) (copiedWords (sessionAt d s)) (sessionAt d s .count))
+    ∙ log-length (d .clock) (copiedRec (sessionAt d s)) (copiedWords (sessionAt d s)) (sessionAt d s .count)
+
+pub finish-tidy : (img : List ℕ) (d : Desk) (len s : ℕ) → Tidy (finishFault img d len s) (finishReply img d len s .entries) (finishEntries img d len s)
+unfolding finishReply finishEntries finishFault
+finish-tidy img d len s =
+    tidy-answered (λ (r : FinishReply). r .entries) (finishFault img d len s) (finishRefused d) _ _ (λ k. refl)
+    (λ z. tidy-cond (λ (r : FinishReply). r .entries) (eqb (sessionAt d s .count) 0) _ _ [] (sealEntries d s) (λ e. tidy-none 0 refl) (λ e. seals z))
+  where
+    base : ℕ
+    base = slotAt (d .n) (placeOf s (sessionAt d s .slot))
+
+    log : List Entry
+    log = logEntries (d .clock) (copiedRec (sessionAt d s)) (copiedWords (sessionAt d s)) (sessionAt d s .count)
+
+    seals : finishFault img d len s ≡ 0 → Tidy 0 (length (sealEntries d s)) (sealEntries d s)
+    seals z =
+        let e = entered img d (roomFor len) s (first-both (imageFault img d (roomFor len) s) _ z .0) in
+        tidy-list (sealEntries d s)
+        (omega (arith, finish-length d s, copies-four d (e .coherent) s (e .small)))
+        (once-shift base log ∙ log-once (d .clock) (copiedRec (sessionAt d s)) (copiedWords (sessionAt d s)) (sessionAt d s .count))
+        (ends-shift base log ∙ log-ends (d .clock) (copiedRec (sessionAt d s)) (copiedWords (sessionAt d s)) (sessionAt d s .count))
+
+pub settle-length : (d : Desk) (s : ℕ) → length (goHomeEntries d s) ≡ 4 * sessionAt d s .count + 1
+settle-length d s =
+    let ws = homesWrites (copiedRec (sessionAt d s)) (copiedWords (sessionAt d s)) (sessionAt d s .count) in
+    omega (
+      arith,
+      length-append (stores ws) (fence ∷ []),
+      length-stores ws,
+      length-homes (copiedRec (sessionAt d s)) (copiedWords (sessionAt d s)) (sessionAt d s .count),
+    )
+
+pub settle-tidy : (img : List ℕ) (d : Desk) (len s : ℕ) → Tidy (settleFault img d len s) (settleReply img d len s .entries) (settleEntries img d len s)
+unfolding settleReply settleEntries settleFault
+settle-tidy img d len s =
+    tidy-answered (λ (r : SettleReply). r .entries) (settleFault img d len s) (settleRefused d) _ _ (λ k. refl)
+    (λ z. tidy-cond (λ (r : SettleReply). r .entries) (waitsB d s) _ _ [] (goHomeEntries d s) (λ e. tidy-none 0 refl) (λ e. settles z))
+  where
+    ws : List Write
+    ws = homesWrites (copiedRec (sessionAt d s)) (copiedWords (sessionAt d s)) (sessionAt d s .count)
+
+    settles : settleFault img d len s ≡ 0 → Tidy 0 (length (goHomeEntries d s)) (goHomeEntries d s)
+    settles z =
+        let e = entered img d (roomFor len) s (first-both (imageFault img d (roomFor len) s) _ z .0) in
+        tidy-list (goHomeEntries d s)
+        (omega (arith, settle-length d s, copies-four d (e .coherent) s (e .small)))
+        (once-group ws [] (homes-distinct (copiedRec (sessionAt d s)) (copiedWords (sessionAt d s)) (sessionAt d s .count) (copies-differ d (e .coherent) s (e .small))) refl)
+        (ends-append (stores ws) fence [] refl)
+
+pub reclaim-tidy : (img : List ℕ) (d : Desk) (len s : ℕ) → Tidy (reclaimFault img d len s) (reclaimReply img d len s .entries) (reclaimEntries img d len s)
+unfolding reclaimReply reclaimEntries
+reclaim-tidy img d len s =
+    tidy-answered (λ (r : ReclaimReply). r .entries) (reclaimFault img d len s) (reclaimRefused d) _ _ (λ k. refl)
+    (λ z. tidy-cond (λ (r : ReclaimReply). r .entries) (noneLeft img d s) _ _ [] _ (λ e. tidy-none 0 refl)
+    (λ e. tidy-cond (λ (r : ReclaimReply). r .entries) (heldB img d s) _ _ [] (clearEntries img d s) (λ e. tidy-none 0 refl)
+    (λ e. tidy-list (clearEntries img d s) (omega arith) refl refl)))

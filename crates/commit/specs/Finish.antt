@@ -1,0 +1,52 @@
+-- Finish (document 01): active only. Without copies the session is idle and the answer is "empty", no stores. With c copies the list is count
+-- and copies, a fence, the persist number, a fence: 5c + 4 entries. The persist number is the clock. The session is sealed.
+-- Checks 1, 2, 3, 4, 6, 10.
+use Prim.Native.Nat.{ℕ, _+_}
+use mathlib.Core.Bool.{_||_, cond}
+use mathlib.Core.List.{List, []}
+use lib.ListN.{length}
+use lib.Dec.{ltb, eqb}
+use Rattle.layout.specs.Checks.{unless, first, answered}
+use Rattle.layout.specs.Entries.{Entry, shift}
+use Rattle.journal.specs.Log.{logEntries}
+use Rattle.layout.specs.Image.{placeOf, slotAt}
+use Rattle.desk.specs.Desk.{copiedRec, copiedWords, sessionAt, isActive, idleSession, withPhase, putSession}
+use Rattle.desk.specs.Coherent.{limit}
+use Rattle.desk.specs.declared.state.Phase.the-variants.{Sealed}
+use Rattle.desk.specs.declared.state.Desk.{Desk}
+use Rattle.desk.specs.Entering.{imageFault}
+use Rattle.layout.specs.Checks.{roomFor}
+use Rattle.commit.specs.declared.finishing.FinishAnswer.the-variants.{Refused, Empty, Sealed as SealedAt}
+use Rattle.commit.specs.declared.finishing.FinishReply.{FinishReply}
+
+-- `len` is the length of the trace; 10 is asked with copies only
+unfoldable pub finishFault : List ℕ → Desk → ℕ → ℕ → ℕ
+finishFault img d len s =
+    first (imageFault img d (roomFor len) s)
+    (first (unless (isActive (sessionAt d s .phase)) 6) (unless (eqb (sessionAt d s .count) 0 || ltb (d .clock) limit) 10))
+
+-- the log of session s, in the slot reserved for it
+abbrev pub sealEntries : Desk → ℕ → List Entry
+sealEntries d s =
+    shift (slotAt (d .n) (placeOf s (sessionAt d s .slot)))
+    (logEntries (d .clock) (copiedRec (sessionAt d s)) (copiedWords (sessionAt d s)) (sessionAt d s .count))
+
+unfoldable pub finishEntries : List ℕ → Desk → ℕ → ℕ → List Entry
+finishEntries img d len s =
+    answered (finishFault img d len s) (λ k. []) (cond (eqb (sessionAt d s .count) 0) [] (sealEntries d s))
+
+abbrev pub finishRefused : Desk → ℕ → FinishReply
+finishRefused d k = record { answer = Refused k; entries = 0; desk = d }
+
+abbrev pub finishDone : Desk → ℕ → FinishReply
+finishDone d s =
+    cond (eqb (sessionAt d s .count) 0)
+    (record { answer = Empty; entries = 0; desk = putSession d s idleSession })
+    (record {
+      answer = SealedAt (d .clock);
+      entries = length (sealEntries d s);
+      desk = putSession d s (withPhase (sessionAt d s) (Sealed (d .clock)));
+    })
+
+unfoldable pub finishReply : List ℕ → Desk → ℕ → ℕ → FinishReply
+finishReply img d len s = answered (finishFault img d len s) (finishRefused d) (finishDone d s)

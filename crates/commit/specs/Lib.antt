@@ -1,0 +1,4 @@
+pub mod Finish
+pub mod Settle
+pub mod Reclaim
+pub mod Told

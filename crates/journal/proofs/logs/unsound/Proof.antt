@@ -1,0 +1,28 @@
+use Rattle.journal.specs.Log.{unsoundB}
+use borrow.Author.Tests.{eq-eqb, ne-eqb}
+use mathlib.Core.Path.{sym}
+use borrow.Author.Needs.{needs}
+use Rattle.journal.proofs.logs.unsound.Statement.{statement}
+use Rattle.journal.proofs.logs.unsound.Tie as tie
+
+slot-word-requires : tie.Need-slot-word-requires
+slot-word-requires c κs = search needs
+
+returns : tie.Need-returns
+unfolding unsoundB
+returns c = sym (rw (rw ((c .before) .slot-word .ensures) at (eq-eqb _ _ (c .if1 .taken))))
+
+slot-word-requires-2 : tie.Need-slot-word-requires-2
+slot-word-requires-2 c κs = search needs
+
+bad-places-requires : tie.Need-bad-places-requires
+bad-places-requires c κs = search needs
+
+returns-2 : tie.Need-returns-2
+unfolding unsoundB
+returns-2 c = rw ((rw ((c .before .before .before) .slot-word .ensures) at (ne-eqb _ _ ((c .before .before) .if1 .left))), (c .before) .slot-word2 .ensures, c .bad-places .ensures)
+
+pub unsound-spec : {M : Type 1} → statement M
+unsound-spec =
+    tie.close
+    (tie.spec slot-word-requires returns slot-word-requires-2 bad-places-requires returns-2)

@@ -1,0 +1,3 @@
+pub mod PutLaws
+pub mod Digits
+pub mod Puts

@@ -1,0 +1,12 @@
+// The lines that the program prints, put into a lent buffer. Everything here asks for room: it is for the programs above, which have shown that there
+// is room before they print a line.
+mod line;
+mod outcome;
+mod text;
+
+pub use line::put_bad;
+pub use line::put_line;
+pub use line::put_open;
+pub use line::put_replayed;
+pub use outcome::Outcome;
+pub use text::put_number;

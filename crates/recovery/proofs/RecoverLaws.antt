@@ -1,0 +1,130 @@
+-- Recover, case by case.
+use Prim.Native.Nat.{ℕ, _+_, _*_, _≤_, _<_}
+use mathlib.Core.Bool.{true, false}
+use mathlib.Core.Path.{_≡_, sym, ap, _∙_}
+use mathlib.Core.List.{List, [], _∷_, _++_}
+use native.Mathlib.Omega.{arith}
+use lib.ListN.{length, getD}
+use borrow.Author.Tests.{eq-eqb, ne-eqb, leb-true}
+use Rattle.layout.specs.Checks.{unless, first}
+use Rattle.layout.proofs.ChecksLaws.{first-both, unless-zero, answered-zero, answered-not}
+use Rattle.layout.specs.Entries.{Entry, store, fence, stores}
+use Rattle.layout.specs.Image.{recordsOf, sessionsOf, shapedB, homeAt, slotAt, slotWord, persistAt}
+use Rattle.journal.specs.Log.{Slot, countOf, recOf, wordsOf}
+use Rattle.layout.specs.Homes.{homesWrites}
+use Rattle.journal.specs.Oldest.{oldestOf}
+use Rattle.journal.specs.declared.scan.Oldest.{Oldest}
+use Rattle.layout.proofs.Groups.{homes-same}
+use Rattle.journal.proofs.Least.{oldest-is}
+use Rattle.layout.proofs.Says.{by-test}
+use Rattle.layout.proofs.Shape.{Shaped, says-shaped}
+use Rattle.desk.specs.Desk.{noCopy}
+use Rattle.desk.specs.declared.state.RecordCopy.{RecordCopy}
+use Rattle.layout.specs.Checks.{roomFor}
+use Rattle.recovery.specs.Recover.{slotsOf, recoverFault, firstLog, cleanB, recoverEntries, recoverRefused, recoverReply}
+use Rattle.recovery.specs.declared.recovering.RecoverAnswer.the-variants.{Clean, Replayed}
+use Rattle.recovery.specs.declared.recovering.RecoverReply.{RecoverReply}
+use Rattle.recovery.proofs.Lists.{recover-length, taken-sound, recover-tidy}
+
+-- what recover answers, and what it lists
+pub record Recovers (img : List ℕ) (len : ℕ) (reply : RecoverReply) (entries : List Entry) : Type 0 where
+  pub replies : recoverReply img len ≡ reply
+  pub lists : recoverEntries img len ≡ entries
+
+-- the list fits the trace
+pub recover-fits : {img : List ℕ} {len : ℕ} {reply : RecoverReply} {es : List Entry} → Recovers img len reply es → 48 ≤ len → 2 * length es ≤ len
+recover-fits {img} {len} {reply} {es} h l = omega (arith, ap length (h .lists), recover-tidy img len .short)
+
+-- checks 1 and 3 have passed
+pub recover-shaped : (img : List ℕ) (len : ℕ) → recoverFault img len ≡ 0 → Shaped img
+unfolding recoverFault
+recover-shaped img len z = says-shaped img .yes (unless-zero (shapedB img) 0 (first-both (unless (shapedB img) 1) _ z .0))
+
+pub recover-room : (img : List ℕ) (len : ℕ) → recoverFault img len ≡ 0 → 48 ≤ len
+unfolding recoverFault
+recover-room img len z =
+    leb-true _ _ (unless-zero (roomFor len) 2 (first-both (unless (roomFor len) 3) _ (first-both (unless (shapedB img) 1) _ z .1) .0))
+
+-- refusal 12 is of an image that passes check 1
+pub unsound-shaped : (img : List ℕ) (len : ℕ) → recoverFault img len ≡ 12 → shapedB img ≡ true
+unfolding recoverFault first
+unsound-shaped img len e = by-test (shapedB img) (λ t. t) (λ f. absurd (omega (arith, rw f at e)))
+
+pub recover-refused : (img : List ℕ) (len k : ℕ) → k ≡ recoverFault img len → (k ≡ 0 → ⊥) → Recovers img len (recoverRefused img k) []
+unfolding recoverReply recoverEntries
+recover-refused img len k e n =
+    record {
+      replies = answered-not _ (recoverRefused img) _ (λ z. n (e ∙ z)) ∙ ap (recoverRefused img) (sym e);
+      lists = answered-not _ (λ _. []) _ (λ z. n (e ∙ z));
+    }
+
+-- past the checks, n records and the oldest log b
+pub record Found (img : List ℕ) (len n : ℕ) (b : Oldest) : Type 0 where
+  pub passed : recoverFault img len ≡ 0
+  pub records : n ≡ recordsOf img
+  pub log : b ≡ firstLog img
+
+pub found : (img : List ℕ) (len n m : ℕ) (b : Oldest) → recoverFault img len ≡ 0 → n ≡ recordsOf img → m ≡ sessionsOf img
+    → b ≡ oldestOf (persistAt img n) (2 * m) → Found img len n b
+unfolding firstLog
+found img len n m b z e g h = record { passed = z; records = e; log = h ∙ rw (e, g) }
+
+-- what holds of n, the log b and the trace where b is replayed
+pub record Taken (img : List ℕ) (len n : ℕ) (b : Oldest) : Type 0 where
+  pub n-high : n ≤ 256
+  pub low : b .place ≤ 32
+  pub room : 48 ≤ len
+  pub inside : slotAt n (b .place) < length img
+  pub few : countOf (slotWord img n (b .place)) ≤ 4
+  pub homes : (j : ℕ) → j < countOf (slotWord img n (b .place)) → (recOf (slotWord img n (b .place)) j < 256) × (homeAt (recOf (slotWord img n (b .place)) j) + 4 ≤ length img)
+
+-- the copies are those of a log
+abbrev pub CopiesOf : Slot → List RecordCopy → Type 0
+CopiesOf f copies = (j : ℕ) → j < 4 → getD copies j noCopy ≡ record { rec = recOf f j; words = wordsOf f j }
+
+module _ {img : List ℕ} {len n : ℕ} {b : Oldest} (f : Found img len n b) where
+  -- the image is clean
+  pub recover-clean : b .persist ≡ 0 → Recovers img len (record { answer = Clean; entries = 0 }) []
+  unfolding recoverReply recoverEntries
+  recover-clean e =
+      let q : cleanB img ≡ true = eq-eqb _ _ (sym (ap (λ (o : Oldest). o .persist) (f .log)) ∙ e) in
+      record {
+        replies = answered-zero _ (recoverRefused img) _ (f .passed) ∙ rw q;
+        lists = answered-zero _ (λ _. []) _ (f .passed) ∙ rw q;
+      }
+
+  module _ (u : b .persist ≡ 0 → ⊥) where
+    occupied : cleanB img ≡ false
+    occupied = ne-eqb _ _ (λ y. u (ap (λ (o : Oldest). o .persist) (f .log) ∙ y))
+
+    pub taken : Taken img len n b
+    unfolding firstLog
+    taken =
+        let s = recover-shaped img len (f .passed) in
+        let d = taken-sound img len (f .passed) occupied in
+        let p = oldest-is (persistAt img (recordsOf img)) (slotsOf img) .some (λ y. u (ap (λ (o : Oldest). o .persist) (f .log) ∙ y)) in
+        rw (f .log, f .records)
+        (record {
+          n-high = s .range .n-high;
+          low = omega (arith, s .range .m-high, p .0);
+          room = recover-room img len (f .passed);
+          inside = omega (arith, s .size, p .0);
+          few = d .at-most;
+          homes = λ j l. (omega (arith, d .below j l, s .range .n-high), omega (arith, d .below j l, s .size));
+        })
+
+    -- the log is replayed
+    pub recover-replays : (copies : List RecordCopy) (count slot : ℕ)
+        → CopiesOf (slotWord img n (b .place)) copies → count ≡ countOf (slotWord img n (b .place)) → slot ≡ slotAt n (b .place)
+        → Recovers img len (record { answer = Replayed (b .persist); entries = 4 * count + 3 })
+        (stores (homesWrites (λ j. getD copies j noCopy .rec) (λ j. getD copies j noCopy .words) count) ++ (fence ∷ store slot 0 ∷ fence ∷ []))
+    unfolding recoverReply recoverEntries
+    recover-replays copies count slot h e i =
+        let w =
+        homes-same (λ j. getD copies j noCopy .rec) (recOf (slotWord img n (b .place)))
+        (λ j. getD copies j noCopy .words) (wordsOf (slotWord img n (b .place))) count
+        (λ j l. let k = h j (omega (arith, taken .few)) in (ap (λ (c : RecordCopy). c .rec) k, ap (λ (c : RecordCopy). c .words) k)) in
+        record {
+          replies = answered-zero _ (recoverRefused img) _ (f .passed) ∙ rw (occupied, recover-length, e, f .log, f .records);
+          lists = answered-zero _ (λ _. []) _ (f .passed) ∙ rw (occupied, w, e, i, f .log, f .records);
+        }

@@ -1,0 +1,3 @@
+pub mod OwnPlace
+pub mod ReadLaws
+pub mod WriteLaws

@@ -1,0 +1,177 @@
+use Rattle.snapshot.proofs.ReadLaws.{shown-by, place-found, words-by, read-refused, read-inactive, read-own, read-copy, read-home}
+use Rattle.desk.proofs.RecordEntered.{recordFault, RecordEntered, record-entered}
+use Rattle.snapshot.proofs.OwnPlace.{holder-small}
+use Rattle.desk.specs.Desk.{sessionAt, markAt}
+use Rattle.desk.specs.declared.state.Desk.{Desk}
+use Prim.Native.Nat.{ℕ, _<_}
+use Rattle.snapshot.specs.Read.{copyShown, startOf}
+use Rattle.layout.proofs.Says.{says-and, says-ne, says-itself}
+use borrow.Author.Tests.{not-true, not-false}
+use lib.Dec.{eqb}
+use native.Mathlib.Omega.{arith}
+use mathlib.Core.Path.{_≡_, sym, _∙_}
+use mathlib.Core.Bool.{not, _&&_}
+use borrow.Author.Needs.{needs}
+use Rattle.snapshot.proofs.reading.read.Statement.{statement}
+use Rattle.snapshot.proofs.reading.read.Tie as tie
+
+-- the checks before the phase's have passed
+passed : (c : tie.Else1) → recordFault (c .before .before .before .before .args .image .now) (c .before .before .before .before .args .t2) (c .before .before .before .before .args .session) (c .before .before .before .before .args .rec) ≡ 0
+passed c = sym (rw (c .before .before .coherent .ensures) at (c .before .record-fault .ensures)) ∙ c .if1 .left
+
+facts : (c : tie.Else1) → RecordEntered (c .before .before .before .before .args .image .now) (c .before .before .before .before .args .t2) (c .before .before .before .before .args .session) (c .before .before .before .before .args .rec)
+facts c = record-entered _ _ _ _ (passed c)
+
+-- the holder's entry is one of the sixteen
+holder : (c : tie.After-marked-session) → c .marked-session .result < 16
+holder c =
+    let f = facts (c .before .before .before .before .before .before .before) in
+    rw (c .marked-session .ensures) (holder-small _ (f .session .coherent) _ (f .small))
+
+-- the arguments, seen from where it is known whether the holder's copy is shown
+abbrev desk-at : tie.After-shown-at → Desk
+desk-at c = c .before .before .before .before .before .before .before .before .before .before .before .before .before .before .args .t2
+
+abbrev rec-at : tie.After-shown-at → ℕ
+rec-at c = c .before .before .before .before .before .before .before .before .before .before .before .before .before .before .args .rec
+
+abbrev start-at : tie.After-shown-at → ℕ
+start-at c = startOf (sessionAt (desk-at c) (c .before .before .before .before .before .before .before .before .before .before .before .before .before .before .args .session) .phase)
+
+-- whether it is shown, as the definition says it
+shown : (c : tie.After-shown-at) → (not (eqb (markAt (desk-at c) (rec-at c)) 0) && c .shown-at .result) ≡ copyShown (desk-at c) (start-at c) (rec-at c)
+shown c =
+    shown-by (desk-at c) (rec-at c) (start-at c) (c .before .start-of .result) (c .before .before .before .marked-session .result) (c .shown-at .result) (c .shown-at .ensures) (c .before .start-of .ensures) (c .before .before .before .marked-session .ensures)
+
+-- a copy that is shown is in one of the holder's four places
+found : (c : tie.After-own-place2) → c .own-place2 .result < 4
+found c =
+    let f = facts (c .before .before .before .before .before .before .before .before .before .before .before .before) in
+    let marked = says-and (says-ne (markAt (desk-at (c .before .before)) (rec-at (c .before .before))) 0) (says-itself (c .before .before .shown-at .result)) .yes (c .before .if4 .taken) .0 in
+    place-found (desk-at (c .before .before)) (rec-at (c .before .before)) (c .before .before .before .before .before .marked-session .result) (c .own-place2 .result) (f .session .coherent) (f .small) marked
+    (c .own-place2 .ensures) (c .before .before .before .before .before .marked-session .ensures)
+
+coherent-requires : tie.Need-coherent-requires
+coherent-requires c κs = search needs
+
+record-fault-requires : tie.Need-record-fault-requires
+record-fault-requires c κs = search needs
+
+gives-requires : tie.Need-gives-requires
+gives-requires c κs = search needs
+
+returns : tie.Need-returns
+returns c = c .gives .ensures ∙ sym (read-refused _ _ _ _ ((c .before .before) .record-fault .result) (rw ((c .before .before .before) .coherent .ensures) at ((c .before .before) .record-fault .ensures)) ((c .before) .if1 .taken))
+
+mul-e : tie.Need-mul-e
+mul-e c = omega (arith, facts c .session .small)
+
+element-copy-out-e : tie.Need-element-copy-out-e
+element-copy-out-e c = facts c .session .small
+
+is-active-requires : tie.Need-is-active-requires
+is-active-requires c κs = search needs
+
+gives-requires-2 : tie.Need-gives-requires-2
+gives-requires-2 c κs = search needs
+
+returns-2 : tie.Need-returns-2
+returns-2 c = c .gives2 .ensures ∙ sym (read-inactive _ _ _ _ (passed (c .before .before .before .before)) (sym ((c .before .before) .is-active .ensures) ∙ not-true _ ((c .before) .if2 .taken)))
+
+own-place-requires : tie.Need-own-place-requires
+own-place-requires c κs = search needs
+
+mul-copy : tie.Need-mul-copy
+mul-copy c = search needs
+
+element-copy-out-copy : tie.Need-element-copy-out-copy
+element-copy-out-copy c = search needs
+
+gives-requires-3 : tie.Need-gives-requires-3
+gives-requires-3 c κs = search needs
+
+returns-3 : tie.Need-returns-3
+returns-3 c =
+    c .gives3 .ensures
+    ∙ rw ((c .before .before .before .before) .own-place .ensures) (sym (read-own _ _ _ _ (passed (c .before .before .before .before .before .before .before .before)) (sym ((c .before .before .before .before .before .before) .is-active .ensures) ∙ not-false _ ((c .before .before .before .before .before) .if2 .left)) (rw ((c .before .before .before .before) .own-place .ensures) at ((c .before .before .before) .if3 .taken))))
+
+element-copy-out-mark : tie.Need-element-copy-out-mark
+element-copy-out-mark c = facts (c .before .before .before .before .before) .small
+
+marked-session-requires : tie.Need-marked-session-requires
+marked-session-requires c κs = search needs
+
+mul-holder : tie.Need-mul-holder
+mul-holder c = let l : c .marked-session .result < 16 = holder c in omega arith
+
+element-copy-out-holder : tie.Need-element-copy-out-holder
+element-copy-out-holder c = holder c
+
+start-of-requires : tie.Need-start-of-requires
+start-of-requires c κs = search needs
+
+shown-at-requires : tie.Need-shown-at-requires
+shown-at-requires c κs = search needs
+
+own-place-requires-2 : tie.Need-own-place-requires-2
+own-place-requires-2 c κs = search needs
+
+mul-copy-2 : tie.Need-mul-copy-2
+mul-copy-2 c = let l : c .own-place2 .result < 4 = found c in omega arith
+
+element-copy-out-copy-2 : tie.Need-element-copy-out-copy-2
+element-copy-out-copy-2 c = found c
+
+gives-requires-4 : tie.Need-gives-requires-4
+gives-requires-4 c κs = search needs
+
+returns-4 : tie.Need-returns-4
+returns-4 c =
+    c .gives4 .ensures
+    ∙ words-by (desk-at (c .before .before .before .before .before)) (rec-at (c .before .before .before .before .before)) ((c .before .before .before .before .before .before .before .before) .marked-session .result) ((c .before .before .before) .own-place2 .result) ((c .before .before .before) .own-place2 .ensures) ((c .before .before .before .before .before .before .before .before) .marked-session .ensures)
+    ∙ sym (read-copy _ _ _ _ (passed (c .before .before .before .before .before .before .before .before .before .before .before .before .before .before .before)) (sym ((c .before .before .before .before .before .before .before .before .before .before .before .before .before) .is-active .ensures) ∙ not-false _ ((c .before .before .before .before .before .before .before .before .before .before .before .before) .if2 .left)) (rw ((c .before .before .before .before .before .before .before .before .before .before .before) .own-place .ensures) at ((c .before .before .before .before .before .before .before .before .before .before) .if3 .left)) (sym (shown (c .before .before .before .before .before)) ∙ (c .before .before .before .before) .if4 .taken))
+
+home-words-requires : tie.Need-home-words-requires
+home-words-requires c κs = omega (arith, facts (c .before .before .before .before .before .before .before .before .before .before .before) .small)
+
+gives-requires-5 : tie.Need-gives-requires-5
+gives-requires-5 c κs = search needs
+
+returns-5 : tie.Need-returns-5
+returns-5 c =
+    c .gives5 .ensures
+    ∙ rw ((c .before) .home-words .ensures)
+    (sym (read-home _ _ _ _ (passed (c .before .before .before .before .before .before .before .before .before .before .before .before .before)) (sym ((c .before .before .before .before .before .before .before .before .before .before .before) .is-active .ensures) ∙ not-false _ ((c .before .before .before .before .before .before .before .before .before .before) .if2 .left)) (rw ((c .before .before .before .before .before .before .before .before .before) .own-place .ensures) at ((c .before .before .before .before .before .before .before .before) .if3 .left)) (sym (shown (c .before .before .before)) ∙ (c .before .before) .if4 .left)))
+
+pub read-spec : {M : Type 1} → statement M
+read-spec =
+    tie.close
+    (tie.spec
+    coherent-requires
+    record-fault-requires
+    gives-requires
+    returns
+    mul-e
+    element-copy-out-e
+    is-active-requires
+    gives-requires-2
+    returns-2
+    own-place-requires
+    mul-copy
+    element-copy-out-copy
+    gives-requires-3
+    returns-3
+    element-copy-out-mark
+    marked-session-requires
+    mul-holder
+    element-copy-out-holder
+    start-of-requires
+    shown-at-requires
+    own-place-requires-2
+    mul-copy-2
+    element-copy-out-copy-2
+    gives-requires-4
+    returns-4
+    home-words-requires
+    gives-requires-5
+    returns-5)

@@ -1,0 +1,4 @@
+pub mod Own
+pub mod Read
+pub mod Write
+pub mod Told

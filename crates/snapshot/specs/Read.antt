@@ -1,0 +1,60 @@
+-- Read (document 01): active only. Own copy if there is one. Otherwise, if the holder is published with end at most this start, the holder's
+-- copy. Otherwise the home record. Checks 1, 2, 4, 5, 6.
+use Prim.Native.Nat.{ℕ, _-_}
+use mathlib.Core.Bool.{Bool, true, false, _&&_, not, cond}
+use mathlib.Core.List.{List}
+use lib.Dec.{leb, ltb, eqb}
+use Rattle.layout.specs.Checks.{unless, first, answered}
+use Rattle.layout.specs.Image.{homeWords}
+use Rattle.desk.specs.Desk.{sessionAt, markAt, copyAt, isActive}
+use Rattle.desk.specs.declared.state.Phase.{Phase}
+use Rattle.desk.specs.declared.state.Phase.the-variants.{Idle, Active, Sealed, Published}
+use Rattle.desk.specs.declared.state.Session.{Session}
+use Rattle.desk.specs.declared.state.Desk.{Desk}
+use Rattle.desk.specs.Entering.{imageFault}
+use Rattle.snapshot.specs.Own.{ownPlace, zeroWords}
+use Rattle.snapshot.specs.declared.reading.ReadAnswer.{ReadAnswer}
+use Rattle.snapshot.specs.declared.reading.ReadAnswer.the-variants.{Refused, Own, Copy, Home}
+use Rattle.snapshot.specs.declared.reading.ReadReply.{ReadReply}
+
+unfoldable pub readFault : List ℕ → Desk → ℕ → ℕ → ℕ
+readFault img d s r = first (imageFault img d true s) (first (unless (ltb r (d .n)) 5) (unless (isActive (sessionAt d s .phase)) 6))
+
+-- the start number of an active session
+abbrev pub startOf : Phase → ℕ
+startOf Idle = 0
+startOf (Active b) = b
+startOf (Sealed p) = 0
+startOf (Published e) = 0
+
+-- published, with end at most this start
+abbrev pub shownAt : ℕ → Phase → Bool
+shownAt start Idle = false
+shownAt start (Active b) = false
+shownAt start (Sealed p) = false
+shownAt start (Published e) = leb e start
+
+-- the session entry that the mark of record r names
+abbrev pub holderEntry : Desk → ℕ → Session
+holderEntry d r = sessionAt d (markAt d r - 1)
+
+-- record r is held, and its holder's copy is shown to a reader with this start
+abbrev pub copyShown : Desk → ℕ → ℕ → Bool
+copyShown d start r = not (eqb (markAt d r) 0) && shownAt start (holderEntry d r .phase)
+
+abbrev pub readGives : Desk → ReadAnswer → List ℕ → ReadReply
+readGives d a ws = record { answer = a; words = ws; desk = d }
+
+abbrev pub readRefused : Desk → ℕ → ReadReply
+readRefused d k = readGives d (Refused k) zeroWords
+
+abbrev pub readDone : List ℕ → Desk → ℕ → ℕ → ReadReply
+readDone img d s r =
+    cond (ltb (ownPlace (sessionAt d s) r) 4)
+    (readGives d Own (copyAt (sessionAt d s) (ownPlace (sessionAt d s) r) .words))
+    (cond (copyShown d (startOf (sessionAt d s .phase)) r)
+    (readGives d Copy (copyAt (holderEntry d r) (ownPlace (holderEntry d r) r) .words))
+    (readGives d Home (homeWords img r)))
+
+unfoldable pub readReply : List ℕ → Desk → ℕ → ℕ → ReadReply
+readReply img d s r = answered (readFault img d s r) (readRefused d) (readDone img d s r)

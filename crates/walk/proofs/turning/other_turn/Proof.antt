@@ -1,0 +1,140 @@
+use mathlib.Core.Bool.{true}
+use mathlib.Core.Path.{refl, sym}
+use lib.ListN.{length}
+use lib.Seq.{length-take-le}
+use Rattle.walk.proofs.WalkLaws.{bad-by, recovered-by, laid-out-by, nothingHeard}
+use borrow.Author.Needs.{needs}
+use Rattle.walk.proofs.turning.other_turn.Statement.{statement}
+use Rattle.walk.proofs.turning.other_turn.Tie as tie
+
+enum-told : tie.Need-enum-told
+enum-told c = search needs
+
+refill-requires : tie.Need-refill-requires
+refill-requires c κs = search needs
+
+filled-requires : tie.Need-filled-requires
+filled-requires c κs = search needs
+
+enum-told-2 : tie.Need-enum-told-2
+enum-told-2 c = search needs
+
+slice-relend-prefix-resume : tie.Need-slice-relend-prefix-resume
+slice-relend-prefix-resume c = search needs
+
+slice-aggregate-resume : tie.Need-slice-aggregate-resume
+slice-aggregate-resume c = sym (length-take-le ((c .before .before .before .before .before .before .before) .args .s .size) ((c .before .before .before .before .before .before .before) .args .image .now) (search needs))
+
+resume-requires : tie.Need-resume-requires
+resume-requires c κs = search needs
+
+enum-known-turn : tie.Need-enum-known-turn
+enum-known-turn c = search needs
+
+lay-requires : tie.Need-lay-requires
+lay-requires c κs = search needs
+
+enum-told-3 : tie.Need-enum-told-3
+enum-told-3 c = search needs
+
+bad-requires : tie.Need-bad-requires
+bad-requires c κs = search needs
+
+enum-told-4 : tie.Need-enum-told-4
+enum-told-4 c = search needs
+
+stopped-requires : tie.Need-stopped-requires
+stopped-requires c κs = search needs
+
+enum-told-5 : tie.Need-enum-told-5
+enum-told-5 c = search needs
+
+enum-told-6 : tie.Need-enum-told-6
+enum-told-6 c = search needs
+
+same-length : tie.Need-same-length
+same-length c = search needs
+
+returns : tie.Need-returns
+returns c =
+    let f = c .filled .ensures in
+    let b = (c .before .before .before) .refill .ensures in
+    (search needs, rw ((c .before .before .before .before .before) .enum-told .given .1) (record { input = (c .before .before .before) .refill .last .0; came = (c .before .before .before) .refill .result; done = true }, b, refl, rw (f .1)))
+
+same-length-2 : tie.Need-same-length-2
+same-length-2 c = search needs
+
+same-length-3 : tie.Need-same-length-3
+same-length-3 c = search needs
+
+same-length-4 : tie.Need-same-length-4
+same-length-4 c = search needs
+
+returns-2 : tie.Need-returns-2
+returns-2 c =
+    let a = (c .before .before .before .before .before .before .before .before .before .before .before .before .before .before .before .before) .args in
+    let w = (c .before .before .before .before .before .before) .resume .ensures in
+    (search needs, rw ((c .before .before .before .before .before .before .before .before .before .before) .enum-told2 .given .1) (nothingHeard (a .input .now), refl, refl, recovered-by (length (a .trace .now)) (record { memory = a .image .now; output = a .output .now; state = a .s }) (w .1 .0) (w .1 .1)))
+
+same-length-5 : tie.Need-same-length-5
+same-length-5 c = search needs
+
+same-length-6 : tie.Need-same-length-6
+same-length-6 c = search needs
+
+returns-3 : tie.Need-returns-3
+returns-3 c =
+    let a = (c .before .before .before .before .before .before .before .before .before .before .before .before .before .before) .args in
+    let w = (c .before .before .before .before) .lay .ensures in
+    (search needs, rw ((c .before .before .before .before .before .before .before .before) .turn .given .1) (nothingHeard (a .input .now), refl, refl, laid-out-by _ _ (record { memory = a .image .now; output = a .output .now; state = a .s }) (w .1 .0) (w .1 .1)))
+
+same-length-7 : tie.Need-same-length-7
+same-length-7 c = search needs
+
+returns-4 : tie.Need-returns-4
+returns-4 c =
+    let a = (c .before .before .before .before .before .before .before .before .before .before) .args in
+    (search needs, rw ((c .before .before .before .before) .enum-told3 .given .1) (nothingHeard (a .input .now), refl, refl, bad-by (record { memory = a .image .now; output = a .output .now; state = a .s }) ((c .before .before) .bad .ensures .1)))
+
+returns-5 : tie.Need-returns-5
+returns-5 c = (search needs, rw ((c .before) .enum-told4 .given .1) (nothingHeard ((c .before .before .before .before .before .before .before) .args .input .now), refl, refl, rw (c .stopped .ensures .1)))
+
+returns-6 : tie.Need-returns-6
+returns-6 c = (search needs, rw (c .enum-told5 .given .1) (nothingHeard ((c .before .before .before .before .before .before) .args .input .now), refl, refl, refl))
+
+returns-7 : tie.Need-returns-7
+returns-7 c = (search needs, rw (c .enum-told6 .given .1) (nothingHeard ((c .before .before .before .before .before .before) .args .input .now), refl, refl, refl))
+
+pub other-turn-spec : {M : Type 1} → statement M
+other-turn-spec =
+    tie.close
+    (tie.spec
+    enum-told
+    refill-requires
+    filled-requires
+    enum-told-2
+    slice-relend-prefix-resume
+    slice-aggregate-resume
+    resume-requires
+    enum-known-turn
+    lay-requires
+    enum-told-3
+    bad-requires
+    enum-told-4
+    stopped-requires
+    enum-told-5
+    enum-told-6
+    same-length
+    returns
+    same-length-2
+    same-length-3
+    same-length-4
+    returns-2
+    same-length-5
+    same-length-6
+    returns-3
+    same-length-7
+    returns-4
+    returns-5
+    returns-6
+    returns-7)

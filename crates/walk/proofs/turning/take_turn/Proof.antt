@@ -1,0 +1,165 @@
+use mathlib.Core.Path.{sym, ap}
+use native.Mathlib.Omega.{arith}
+use lib.ListN.{length}
+use lib.Seq.{length-take-le}
+use borrow.Author.Tests.{lt-ltb, le-ltb}
+use Rattle.recovery.specs.declared.opening.OpenReply.{OpenReply}
+use Rattle.walk.specs.Walk.{worldOf}
+use Rattle.walk.proofs.Turns.{written-within, turned}
+use Rattle.walk.proofs.OneTurnLaws.{written-turn, opened-turn, called-turn, other-turn}
+use borrow.Author.Needs.{needs}
+use Rattle.walk.proofs.turning.take_turn.Statement.{statement}
+use Rattle.walk.proofs.turning.take_turn.Tie as tie
+
+sub-if1 : tie.Need-sub-if1
+sub-if1 c = search needs
+
+write-out-requires : tie.Need-write-out-requires
+write-out-requires c κs = search needs
+
+written-requires : tie.Need-written-requires
+written-requires c κs = search needs
+
+gives-requires : tie.Need-gives-requires
+gives-requires c κs = search needs
+
+same-length : tie.Need-same-length
+same-length c = search needs
+
+returns : tie.Need-returns
+returns c =
+    let a = (c .before .before .before .before .before .before .before .before .before .before .before) .args in
+    let e = (c .before) .written .ensures in
+    let a-pre = (c .before .before .before .before .before .before .before .before .before .before .before) .pre in
+    rw (c .gives .ensures) ((written-within (a-pre .0) (e .1), omega (arith, e .0 .4)), written-turn (length (a .trace .now)) (worldOf (a .input .now) (a .image .now) (a .output .now) (a .desk) (a .s)) ((c .before .before) .write-out .result) (lt-ltb _ _ ((c .before .before .before .before) .if1 .taken)) (e .1))
+
+next-turn-requires : tie.Need-next-turn-requires
+next-turn-requires c κs = search needs
+
+enum-told : tie.Need-enum-told
+enum-told c = search needs
+
+slice-reshare-prefix-open : tie.Need-slice-reshare-prefix-open
+slice-reshare-prefix-open c = search needs
+
+slice-aggregate-open : tie.Need-slice-aggregate-open
+slice-aggregate-open c = sym (length-take-le ((c .before .before .before .before) .next-turn .result .state .size) ((c .before .before .before .before .before .before .before .before .before .before .before .before .before) .args .image .now) (search needs))
+
+open-requires : tie.Need-open-requires
+open-requires c κs = search needs
+
+opened-requires : tie.Need-opened-requires
+opened-requires c κs = search needs
+
+gives-requires-2 : tie.Need-gives-requires-2
+gives-requires-2 c κs = search needs
+
+enum-known-turn : tie.Need-enum-known-turn
+enum-known-turn c = search needs
+
+call-turn-requires : tie.Need-call-turn-requires
+call-turn-requires c κs = search needs
+
+other-turn-requires : tie.Need-other-turn-requires
+other-turn-requires c κs = search needs
+
+gives-requires-3 : tie.Need-gives-requires-3
+gives-requires-3 c κs = search needs
+
+same-length-2 : tie.Need-same-length-2
+same-length-2 c = search needs
+
+same-length-3 : tie.Need-same-length-3
+same-length-3 c = search needs
+
+returns-2 : tie.Need-returns-2
+returns-2 c =
+    let a = (c .before .before .before .before .before .before .before .before .before .before .before .before .before .before .before .before .before) .args in
+    let n = (c .before .before .before .before .before .before .before .before) .next-turn .ensures in
+    let e = (c .before) .opened .ensures in
+    rw (c .gives2 .ensures) (
+      (turned ((c .before .before .before .before .before .before .before .before .before .before .before .before .before .before .before .before .before) .pre .0) (n .0) (e .0) (search needs), omega (arith, n .0 .numbered, e .0 .numbered)),
+      opened-turn (length (a .trace .now)) (worldOf (a .input .now) (a .image .now) (a .output .now) (a .desk) (a .s)) (le-ltb _ _ ((c .before .before .before .before .before .before .before .before .before .before) .if1 .left)) (n .1) ((c .before .before .before .before .before) .enum-told .given .1) (ap (λ (x : OpenReply). x .desk) ((c .before .before .before) .«open» .ensures)) (e .1),
+    )
+
+same-length-4 : tie.Need-same-length-4
+same-length-4 c = search needs
+
+same-length-5 : tie.Need-same-length-5
+same-length-5 c = search needs
+
+same-length-6 : tie.Need-same-length-6
+same-length-6 c = search needs
+
+same-length-7 : tie.Need-same-length-7
+same-length-7 c = search needs
+
+same-length-8 : tie.Need-same-length-8
+same-length-8 c = search needs
+
+returns-3 : tie.Need-returns-3
+returns-3 c =
+    let a = (c .before .before .before .before .before .before .before .before .before .before .before .before .before .before .before .before .before .before .before .before .before .before .before .before .before .before .before) .args in
+    let n = (c .before .before .before .before .before .before .before .before .before .before .before .before .before .before .before .before .before .before) .next-turn .ensures in
+    let e = (c .before .before .before .before .before .before .before .before) .call-turn .ensures in (
+      (turned ((c .before .before .before .before .before .before .before .before .before .before .before .before .before .before .before .before .before .before .before .before .before .before .before .before .before .before .before) .pre .0) (n .0) (e .0) (search needs), omega (arith, n .0 .numbered, e .0 .numbered)),
+      called-turn (length (a .trace .now)) (worldOf (a .input .now) (a .image .now) (a .output .now) (a .desk) (a .s)) (le-ltb _ _ ((c .before .before .before .before .before .before .before .before .before .before .before .before .before .before .before .before .before .before .before .before) .if1 .left)) (n .1) _ ((c .before .before .before .before .before .before .before .before .before .before .before .before .before .before .before) .turn .given .1) (e .1 .0) (e .1 .1),
+    )
+
+same-length-9 : tie.Need-same-length-9
+same-length-9 c = search needs
+
+same-length-10 : tie.Need-same-length-10
+same-length-10 c = search needs
+
+same-length-11 : tie.Need-same-length-11
+same-length-11 c = search needs
+
+same-length-12 : tie.Need-same-length-12
+same-length-12 c = search needs
+
+returns-4 : tie.Need-returns-4
+returns-4 c =
+    let a = (c .before .before .before .before .before .before .before .before .before .before .before .before .before .before .before .before .before .before .before .before .before .before .before .before .before) .args in
+    let n = (c .before .before .before .before .before .before .before .before .before .before .before .before .before .before .before .before) .next-turn .ensures in
+    let e = (c .before .before .before .before .before .before .before .before .before) .other-turn .ensures in
+    rw (c .gives3 .ensures) (
+      (e .0 .0, omega (arith, n .0 .numbered, e .0 .1)),
+      other-turn (length (a .trace .now)) (worldOf (a .input .now) (a .image .now) (a .output .now) (a .desk) (a .s)) (le-ltb _ _ ((c .before .before .before .before .before .before .before .before .before .before .before .before .before .before .before .before .before .before) .if1 .left)) (n .1) ((c .before .before .before .before .before .before .before .before .before .before .before .before .before .before) .match .keys3) (e .1),
+    )
+
+pub take-turn-spec : {M : Type 1} → statement M
+take-turn-spec =
+    tie.close
+    (tie.spec
+    sub-if1
+    write-out-requires
+    written-requires
+    gives-requires
+    same-length
+    returns
+    next-turn-requires
+    enum-told
+    slice-reshare-prefix-open
+    slice-aggregate-open
+    open-requires
+    opened-requires
+    gives-requires-2
+    enum-known-turn
+    call-turn-requires
+    other-turn-requires
+    gives-requires-3
+    same-length-2
+    same-length-3
+    returns-2
+    same-length-4
+    same-length-5
+    same-length-6
+    same-length-7
+    same-length-8
+    returns-3
+    same-length-9
+    same-length-10
+    same-length-11
+    same-length-12
+    returns-4)

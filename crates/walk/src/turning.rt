@@ -1,0 +1,131 @@
+// One turn of a walk. The functions here are for use inside this crate: they ask for places within the buffers and room for a line.
+ghost use mathlib.Core.Path.{_≡_};
+ghost use Prim.Native.Nat.{_+_, _<_, _≤_, _^_};
+ghost use lib.ListN.{length};
+ghost use Rattle.walk.specs.Bounds.{Within};
+ghost use Rattle.turns.specs.Bounds.{Follows};
+ghost use Rattle.walk.specs.Walk.{called, deskAfter, OtherTurn, worldOf, OneTurn};
+ghost use Rattle.walk.specs.declared.turn.Turn.the-variants.{Call};
+use crate::turn::Turn;
+use crate::turn::next_turn;
+use codec::Step;
+use store::Desk;
+use turns::State;
+use turns::bad;
+use turns::filled;
+use turns::lay;
+use turns::make;
+use turns::opened;
+use turns::resume;
+use turns::stopped;
+use turns::tell;
+use turns::written;
+
+// The desk and the state after a turn.
+pub struct Turned {
+    pub desk: Desk,
+    pub state: State,
+}
+
+fn gives(desk: Desk, state: State) -> Turned
+    ensures { λ r. ⌜ r ≡ record { desk = desk; state = state } ⌝ }
+{
+    Turned {
+        desk: desk,
+        state: state,
+    }
+}
+
+// A step on the opened store, and its line.
+fn call_turn(
+    image: &mut [u64],
+    before: &mut [u64],
+    trace: &mut [u64],
+    output: &mut [u8],
+    desk: Desk,
+    s: State,
+    step: Step,
+    words: [u64; 4],
+) -> Turned
+    requires { ⌜ (s .size ≤ length (now image)) × (length (now image) ≤ length (now before)) × (s .put + 256 ≤ length (now output)) ⌝ }
+    ensures { λ r. ⌜ Follows s (r .state) (length (now (output .entry))) (s .size) ⌝ }
+    ensures { λ r. ⌜ record { memory = now (image .exit); output = now (output .exit); state = r .state } ≡ called (length (now (trace .entry))) desk step words (record { memory = now (image .entry); output = now (output .entry); state = s }) ⌝ }
+    ensures { λ r. ⌜ r .desk ≡ deskAfter (length (now (trace .entry))) (Call step) words desk (record { memory = now (image .entry); output = now (output .entry); state = s }) ⌝ }
+{
+    let size = s.size;
+    let a = make(&mut image[..size], before, trace, desk, step, words, s);
+    let d = a.desk;
+    let outcome = a.outcome;
+    let shown = a.words;
+    gives(d, tell(output, s, step, outcome, shown, a.entries))
+}
+
+// A turn that leaves the desk as it is.
+fn other_turn(
+    input: &mut [u8],
+    image: &mut [u64],
+    trace: &mut [u64],
+    output: &mut [u8],
+    s: State,
+    turn: Turn,
+) -> State
+    requires { ⌜ Within s (length (now input)) (length (now output)) (length (now image)) × (s .put + 256 ≤ length (now output)) ⌝ }
+    ensures { λ r. ⌜ Within r (length (now (input .entry))) (length (now (output .entry))) (length (now (image .entry))) × (r .number ≡ s .number) ⌝ }
+    ensures { λ r. ⌜ OtherTurn (length (now (trace .entry))) turn (now (input .entry)) (record { memory = now (image .entry); output = now (output .entry); state = s }) (now (input .exit)) (record { memory = now (image .exit); output = now (output .exit); state = r }) ⌝ }
+{
+    match turn {
+        Turn::Fill => {
+            let came = feed::refill(input, s.at, s.have);
+            filled(s, came)
+        }
+        Turn::Recover => {
+            let size = s.size;
+            resume(&mut image[..size], trace, output, s)
+        }
+        Turn::Lay(n, m) => lay(image, output, s, n, m),
+        Turn::Bad => bad(output, s),
+        Turn::End => stopped(s),
+        Turn::Open => s,
+        Turn::Call(_) => s,
+    }
+}
+
+// One turn: it writes, where there is little room for a line; or it opens, recovers, reads, makes a step, lays, or stops.
+pub fn take_turn(
+    input: &mut [u8],
+    image: &mut [u64],
+    before: &mut [u64],
+    trace: &mut [u64],
+    output: &mut [u8],
+    desk: Desk,
+    s: State,
+) -> Turned
+    requires { ⌜ Within s (length (now input)) (length (now output)) (length (now image)) ⌝ }
+    requires { ⌜ (length (now image) ≤ length (now before)) × (s .number + 1 < 2 ^ 64) ⌝ }
+    ensures { λ r. ⌜ Within (r .state) (length (now (input .entry))) (length (now (output .entry))) (length (now (image .entry))) × (r .state .number ≤ s .number + 1) ⌝ }
+    ensures { λ r. ⌜ OneTurn (length (now (trace .entry))) (worldOf (now (input .entry)) (now (image .entry)) (now (output .entry)) desk s) (worldOf (now (input .exit)) (now (image .exit)) (now (output .exit)) (r .desk) (r .state)) ⌝ }
+{
+    if output.len() - s.put < 256 {
+        let done = feed::write_out(output, s.put);
+        return gives(desk, written(s, done));
+    }
+    let t = next_turn(input, s);
+    let turn = t.turn;
+    let next = t.state;
+    match turn {
+        Turn::Open => {
+            let size = next.size;
+            let r = store::open(&image[..size]);
+            let d = r.desk;
+            gives(d, opened(next))
+        }
+        Turn::Call(step) => {
+            let words = t.words;
+            call_turn(image, before, trace, output, desk, next, step, words)
+        }
+        _ => {
+            let after = other_turn(input, image, trace, output, next, turn);
+            gives(desk, after)
+        }
+    }
+}
