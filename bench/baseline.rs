@@ -73,7 +73,7 @@ fn at_odds(one: &[u64], other: &[u64]) -> bool {
 
 // ---- stores and fences ----------------------------------------------------
 
-/// The lent strip and the number of entries that the last call listed.
+/// The lent trace and the number of entries that the last call listed.
 struct Trace {
     words: Vec<u64>,
     entries: usize,

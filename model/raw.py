@@ -15,11 +15,11 @@ INPUT. 64-bit words, lowest byte first, case after case up to the end of file:
     words 1, 2    N and M, for lay
     words 3, 4    session and record
     words 5-8     the four words, for write
-    word  9       strip length in words, at most 64
+    word  9       trace length in words, at most 64
     word  10      image length in words, at most 1800
     words 11-653  the desk, 643 words (below)
     then          the image words
-Fields that the call does not take are 0. Word i of the strip before the call
+Fields that the call does not take are 0. Word i of the trace before the call
 is 0xA5A5A5A500000000 + i.
 
 A DESK is 643 words: clock, N, M; 256 marks (0 none, else session + 1); 16
@@ -34,16 +34,16 @@ run of zeros ends with its case.
 
 WANT. One line of text a case, 12 decimal fields parted by one space:
     case, call, answer, value, four words, entries,
-    digest of the image, digest of the strip, digest of the desk
+    digest of the image, digest of the trace, digest of the desk
 The answer is the refusal's number, or 20 ok, 21 start, 22 own, 23 copy,
 24 home, 25 empty, 26 sealed, 27 end, 28 wait, 29 none, 30 held, 31 cleared,
 32 clean, 33 replayed. The value goes with start, sealed, end, wait, held,
 cleared, replayed, 7 and 12, the four words with own, copy and home; unused
-fields are 0. Entries is their number; they stand at the front of the strip.
+fields are 0. Entries is their number; they stand at the front of the trace.
 The digests are of what the call leaves, refused or not; 0 where the call
 takes no such part (lay: image alone; begin, publish, abandon: desk alone;
 open: image and the desk it gives; read, write: image and desk; recover:
-image and strip).
+image and trace).
 
 DIGEST of k words: d = k at first, then for each word w, with its parts
 w % 2**32 and then w // 2**32:
@@ -70,7 +70,7 @@ ANSWERS = ["ok", "start", "own", "copy", "home", "empty", "sealed", "end", "wait
            "none", "held", "cleared", "clean", "replayed"]
 WITH_DESK = CALLS[1:9]
 WITH_IMAGE = [c for c in CALLS if c not in ("begin", "publish", "abandon")]
-WITH_STRIP = ["finish", "settle", "reclaim", "recover"]
+WITH_TRACE = ["finish", "settle", "reclaim", "recover"]
 WITH_RECORD = ["read", "write"]
 
 
@@ -78,19 +78,19 @@ WITH_RECORD = ["read", "write"]
 
 def run(case):
     """Makes the call of a case on the model."""
-    call, image, desk, strip, session = (case[k] for k in ("call", "image", "desk", "strip", "session"))
+    call, image, desk, trace, session = (case[k] for k in ("call", "image", "desk", "trace", "session"))
     if call == "lay":
         return store.lay(case["N"], case["M"], image)
     if call == "open":
         return store.open_image(image)
     if call == "recover":
-        return store.recover(image, strip)
+        return store.recover(image, trace)
     if call == "read":
         return store.read(image, desk, session, case["record"])
     if call == "write":
         return store.write(image, desk, session, case["record"], case["words"])
-    if call in WITH_STRIP:
-        return getattr(store, call)(image, desk, strip, session)
+    if call in WITH_TRACE:
+        return getattr(store, call)(image, desk, trace, session)
     return getattr(store, call)(desk, session)
 
 
@@ -110,12 +110,12 @@ def desk_words(desk):
 def case_words(case):
     head = [CALLS.index(case["call"]), case["N"], case["M"], case["session"], case["record"]]
     image = case["image"] or []
-    return (head + case["words"] + [case["strip"], len(image)]
+    return (head + case["words"] + [case["trace"], len(image)]
             + desk_words(case["desk"]) + image)
 
 
-def strip_before(case):
-    return [0xA5A5A5A500000000 + i for i in range(case["strip"])]
+def trace_before(case):
+    return [0xA5A5A5A500000000 + i for i in range(case["trace"])]
 
 
 def answer_number(answer):
@@ -159,11 +159,11 @@ def want_line(number, case):
     """The line of a case."""
     done = run(case)
     call, answer = case["call"], done["answer"]
-    strip = store.strip_after(strip_before(case), done["entries"])
+    trace = store.trace_after(trace_before(case), done["entries"])
     fields = [number, CALLS.index(call), answer_number(answer), answer["value"]]
     fields += answer["words"] + [len(done["entries"])]
     fields.append(digest(done["image"]) if call in WITH_IMAGE else 0)
-    fields.append(digest(strip) if call in WITH_STRIP else 0)
+    fields.append(digest(trace) if call in WITH_TRACE else 0)
     fields.append(digest(desk_words(done["desk"])) if call in WITH_DESK + ["open"] else 0)
     return " ".join(str(field) for field in fields)
 
@@ -582,8 +582,8 @@ def session_scene(rng, call):
     case["desk"], case["session"] = desk, rng.randrange(m)
     if call in WITH_IMAGE:
         case["image"] = some_image(rng, n, m, desk)
-    if call in WITH_STRIP:
-        case["strip"] = rng.choice([48, 48, 49, 50, 64])
+    if call in WITH_TRACE:
+        case["trace"] = rng.choice([48, 48, 49, 50, 64])
     if call in WITH_RECORD:
         held = [r for r in range(n) if desk["marks"][r] is not None]
         case["record"] = rng.choice(held) if held and rng.random() < 0.6 else rng.randrange(n)
@@ -594,7 +594,7 @@ def session_scene(rng, call):
 
 def blank(call):
     return {"call": call, "N": 0, "M": 0, "session": 0, "record": 0, "words": [0] * 4,
-            "strip": 0, "image": None, "desk": None}
+            "trace": 0, "image": None, "desk": None}
 
 
 def lay_scene(rng, aim):
@@ -643,11 +643,11 @@ def recover_scene(rng, aim):
         if aim == 13 and one[1] <= 4 and other[1] <= 4:  # and a record in common
             other[2 + 5 * rng.randrange(max(1, other[1]))] = one[2 + 5 * rng.randrange(max(1, one[1]))]
     case["image"] = image_of(rng, n, m, slots)
-    case["strip"] = rng.choice([48, 48, 49, 64])
+    case["trace"] = rng.choice([48, 48, 49, 64])
     if aim == 1:
         case["image"] = wrong_image(rng, case["image"])
     if aim == 3 or (aim == 1 and rng.random() < 0.3):
-        case["strip"] = rng.choice([0, 1, 24, 46, 47, 47])
+        case["trace"] = rng.choice([0, 1, 24, 46, 47, 47])
     return case
 
 
@@ -679,7 +679,7 @@ def spoil(rng, case, number):
             desk = broken_desk(rng, case["desk"], case["image"], rng.choice(names))
         case["desk"] = desk
     elif number == 3:
-        case["strip"] = rng.choice([0, 1, 24, 46, 47, 47])
+        case["trace"] = rng.choice([0, 1, 24, 46, 47, 47])
     elif number == 4:
         case["session"] = far(rng, case["desk"]["M"])
     elif number == 5:
@@ -688,7 +688,7 @@ def spoil(rng, case, number):
 
 def causes(call):
     """Which of the checks 1 to 5 a session call makes."""
-    found = [2, 4] + [1] * (call in WITH_IMAGE) + [3] * (call in WITH_STRIP) + [5] * (call in WITH_RECORD)
+    found = [2, 4] + [1] * (call in WITH_IMAGE) + [3] * (call in WITH_TRACE) + [5] * (call in WITH_RECORD)
     return sorted(found)
 
 
@@ -781,8 +781,8 @@ def largest(rng, call):
         case["N"], case["M"] = n, m
     if call in WITH_DESK:
         case["desk"] = some_desk(rng, n, m)
-    if call in WITH_STRIP:
-        case["strip"] = 48
+    if call in WITH_TRACE:
+        case["trace"] = 48
     image = some_image(rng, n, m, case["desk"] or store.new_desk(1, n, m))
     case["image"] = rng.choice([image[:-1], image + [0]])
     return case
@@ -813,7 +813,7 @@ def show(seed, number):
     """One case in full, as text."""
     case, _ = make(seed, number)
     done = run(case)
-    for name in ("call", "N", "M", "session", "record", "words", "strip"):
+    for name in ("call", "N", "M", "session", "record", "words", "trace"):
         print("%-8s %s" % (name, case[name]))
     for title, desk, image in (("before", case["desk"], case["image"]),
                                ("after", done["desk"], done["image"])):

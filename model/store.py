@@ -1,6 +1,6 @@
 """Reference model of the two-copy record store (document 01).
 
-An image is a list of 64-bit words, a desk is a dictionary, a strip is given
+An image is a list of 64-bit words, a desk is a dictionary, a trace (the document's strip) is given
 by its length in words. No call alters what it is given. Each call returns a
 dictionary: "answer", "desk", "image" and "entries". A part that the call
 does not take or give is None; entries are pairs (index, word).
@@ -8,7 +8,7 @@ does not take or give is None; entries are pairs (index, word).
 
 L = 2 ** 62
 FENCE = (2 ** 64 - 1, 0)
-STRIP_WORDS = 48
+TRACE_WORDS = 48
 ZEROS = [0, 0, 0, 0]
 
 
@@ -97,10 +97,10 @@ def made(image, entries):
     return image
 
 
-def strip_after(strip, entries):
+def trace_after(trace, entries):
     """An entry is two words; words past the entries stay unchanged."""
     listed = [word for entry in entries for word in entry]
-    return listed + list(strip[len(listed):])
+    return listed + list(trace[len(listed):])
 
 
 def to_home(copies):
@@ -244,13 +244,13 @@ def coherent(desk, image=None):
 
 # ---- checks 1 to 6, lowest number first ----------------------------------
 
-def turned_away(desk, session, image=None, strip=None, record=None, phase=None):
+def turned_away(desk, session, image=None, trace=None, record=None, phase=None):
     """The refusal by the checks that apply to the arguments given, or None."""
     if image is not None and not image_right(image):
         return no(1)
     if not coherent(desk, image):
         return no(2)
-    if strip is not None and strip < STRIP_WORDS:
+    if trace is not None and trace < TRACE_WORDS:
         return no(3)
     if session >= desk["M"]:
         return no(4)
@@ -382,10 +382,10 @@ def copied(desk, session, record, words, slot):
 
 # ---- finish, settle, reclaim ---------------------------------------------
 
-def finish(image, desk, strip, session):
+def finish(image, desk, trace, session):
     """Active only. Without copies: idle, "empty". With copies: sealed; the
     persist number is the clock."""
-    refusal = turned_away(desk, session, image, strip, phase="active")
+    refusal = turned_away(desk, session, image, trace, phase="active")
     if refusal:
         return result(refusal, desk, image)
     own = desk["sessions"][session]
@@ -409,11 +409,11 @@ def log_body(at, copies):
     return entries
 
 
-def settle(image, desk, strip, session):
+def settle(image, desk, trace, session):
     """Published only. Waits while an active session has a start below this
     end; otherwise the copies go home, the session is idle and the slot stays
     occupied."""
-    refusal = turned_away(desk, session, image, strip, phase="published")
+    refusal = turned_away(desk, session, image, trace, phase="published")
     if refusal:
         return result(refusal, desk, image)
     own = desk["sessions"][session]
@@ -424,10 +424,10 @@ def settle(image, desk, strip, session):
     return result(said("ok"), made_idle(desk, session), image, entries)
 
 
-def reclaim(image, desk, strip, session):
+def reclaim(image, desk, trace, session):
     """Any phase. Clears this session's log with the smallest persist number,
     unless a slot of the image has a smaller one."""
-    refusal = turned_away(desk, session, image, strip)
+    refusal = turned_away(desk, session, image, trace)
     if refusal:
         return result(refusal, desk, image)
     places = reclaimable(image, desk, session)
@@ -470,12 +470,12 @@ def at_odds(image, one, other):
     return bool(records[0] & records[1])
 
 
-def recover(image, strip):
+def recover(image, trace):
     """Replays and clears the log with the smallest persist number, lowest
     place in the image first. Checks 1, 3, 12, 13."""
     if not image_right(image):
         return result(no(1), image=image)
-    if strip < STRIP_WORDS:
+    if trace < TRACE_WORDS:
         return result(no(3), image=image)
     places = occupied(image)
     bad = [place for place in places if damaged(image, place)]

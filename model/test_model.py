@@ -339,10 +339,10 @@ def edges(st):
         image = slot_put(st, laid(st), 2, number, [0])
         image[4 + 8 + 44 + 1] = 5
         same(answer_of(st.recover(image, 48)), wanted, "M, N")
-    # Strip of 47 words: 3. Session and record both too large: 4.
+    # Trace of 47 words: 3. Session and record both too large: 4.
     for call in (st.finish, st.settle, st.reclaim):
-        same(answer_of(call(laid(st), st.new_desk(1, 2, 2), 47, 9)), (3, 0), "strip")
-    same(answer_of(st.recover(laid(st), 47)), (3, 0), "strip")
+        same(answer_of(call(laid(st), st.new_desk(1, 2, 2), 47, 9)), (3, 0), "trace")
+    same(answer_of(st.recover(laid(st), 47)), (3, 0), "trace")
     same(answer_of(st.read(laid(st), st.new_desk(1, 2, 2), 2, 2)), (4, 0), "both too large")
     more_edges(st)
 
@@ -365,7 +365,7 @@ def more_edges(st):
     same(st.write(image, desk, 0, 0, [1] * 4)["desk"]["sessions"][0]["slot"], 1, "lowest empty slot")
     done = st.write(laid(st), held_desk(st, 6, 5), 0, 0, [1] * 4)
     same((answer_of(done), done["desk"]["sessions"][0]), ((7, 1), st.entry("idle")), "7")
-    same(st.strip_after([5] * 50, [(9, 1), FENCE]), [9, 1, TOP, 0] + [5] * 46, "strip")
+    same(st.trace_after([5] * 50, [(9, 1), FENCE]), [9, 1, TOP, 0] + [5] * 46, "trace")
     clock = st.new_desk(TOP, 2, 2)
     clock["sessions"][0] = st.entry("sealed", 1, [[0, [0] * 4]])
     clock["marks"][0] = 0
@@ -549,7 +549,7 @@ def case_read(words):
     sessions = [{"phase": raw.PHASES[e[0]], "number": e[1], "count": e[2], "slot": e[3],
                  "places": [[e[i], e[i + 1:i + 5]] for i in range(4, 24, 5)]} for e in entries]
     case = {"call": call, "N": words[1], "M": words[2], "session": words[3], "record": words[4],
-            "words": words[5:9], "strip": words[9],
+            "words": words[5:9], "trace": words[9],
             "image": words[654:at] if call in raw.WITH_IMAGE else None,
             "desk": {"clock": desk[0], "N": desk[1], "M": desk[2],
                      "marks": [mark - 1 if mark else None for mark in desk[3:259]],
@@ -593,7 +593,7 @@ def raw_cases(st):
             if case["call"] != "open":
                 same(done["desk"], case["desk"], "desk of a refusal")
         if max(before) > TOP or max(before[14:270]) > 255 \
-                or len(case["image"] or []) > 1800 or case["strip"] > 64:
+                or len(case["image"] or []) > 1800 or case["trace"] > 64:
             raise AssertionError("raw case %d out of the stated bounds" % number)
     wanted = {(call, aim) for call in raw.AIMS for aim in raw.AIMS[call]}
     same(sorted(map(str, wanted - seen)), [], "answers that no raw case has")

@@ -10,7 +10,8 @@ use Rattle.commit.specs.declared.finishing.FinishAnswer.{FinishAnswer}
 use Rattle.commit.specs.declared.settling.SettleAnswer.{SettleAnswer}
 use Rattle.commit.specs.declared.reclaiming.ReclaimAnswer.{ReclaimAnswer}
 
--- a call with whatever a caller may pass: any session, record and words, and any length of the trace, which finish, settle and reclaim take first
+-- a call with whatever a caller may pass: any session, record and words, and any length of the trace, which finish, settle and reclaim take
+-- first
 pub data Call : Type 0 where
   begin : ℕ → Call
   read : ℕ → ℕ → Call

@@ -31,8 +31,8 @@ Demand2 R = (img : List ℕ) → R .opens img .answer ≡ Opened → (calls : Li
 
 -- ---- demand 3
 
--- where power fails: in the opening, which stores nothing, or in a call after others, with its first k entries made and of the stores since the
--- last fence those arrived that are selected
+-- where power fails: in the opening, which stores nothing, or in a call after others, with its first k entries made and of the stores since
+-- the last fence those arrived that are selected
 pub data Cut : Type 0 where
   opening : Cut
   during : List Call → Call → ℕ → (ℕ → Bool) → Cut
@@ -78,8 +78,8 @@ ReadRight h start r Own ws = Unit {0}
 ReadRight h start r Copy ws = ws ≡ viewAt h start r
 ReadRight h start r Home ws = ws ≡ fourWords (viewAt h start r)
 
--- calls of recover after the cut: some that are cut themselves or come to their end, then as many that come to their end as there are occupied
--- slots, the i-th with a trace of 48 + x i words
+-- calls of recover after the cut: some that are cut themselves or come to their end, then as many that come to their end as there are
+-- occupied slots, the i-th with a trace of 48 + x i words
 module _ (R : Rules) (img : List ℕ) (cut : Cut) (tries : List Try) (x : ℕ → ℕ) where
   abbrev pub tried : List ℕ
   tried = afterTries (R .recoverStores) tries (cutImage R img cut)

@@ -69,9 +69,6 @@ oneMark = 1 ∷ 0 ∷ 0 ∷ 0 ∷ []
 abbrev pub fourMarks : List ℕ
 fourMarks = 1 ∷ 1 ∷ 1 ∷ 1 ∷ []
 
-abbrev pub noMarks : List ℕ
-noMarks = replicate 4 0
-
 -- a reader with this start, of record 0, which session 0 has published with this end
 abbrev pub readAt : ℕ → ℕ → ReadReply
 readAt start end = readReply image (deskOf 6 oneMark (oneCopy (Published end)) (noCopies (Active start))) 1 0

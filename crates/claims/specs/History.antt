@@ -18,8 +18,8 @@ use Rattle.history.specs.Desk.{Copy, find, put, upd}
 use Rattle.history.specs.History.{Seal, over, seen, pick}
 use Rattle.claims.specs.Call.{Event, began, looked, wrote, abandoned, finished, published, settled, reclaimed}
 
--- the opening records, the list of entries in sealing order (an entry has its session, what it wrote, and its end once it is published), each
--- session's draft and its noted start
+-- the opening records, the list of entries in sealing order (an entry has its session, what it wrote, and its end once it is published),
+-- each session's draft and its noted start
 pub record History : Type 0 where
   pub opening : ℕ → List ℕ
   pub sealed : List Seal
@@ -107,7 +107,7 @@ abbrev pub appliedBy : ℕ → List Seal → ℕ → List ℕ → List ℕ
 appliedBy σ [] r ws = ws
 appliedBy σ (x ∷ xs) r ws = appliedBy σ xs r (over (pick (seen σ (x .end)) r (x .draft)) ws)
 
--- what a reader with the start σ sees of record r: the words of the last entry that has the record and an end up to σ; if there is none, the
--- opening words
+-- what a reader with the start σ sees of record r: the words of the last entry that has the record and an end up to σ; if there is none,
+-- the opening words
 abbrev pub viewAt : History → ℕ → ℕ → List ℕ
 viewAt h σ r = appliedBy σ (h .sealed) r (h .opening r)

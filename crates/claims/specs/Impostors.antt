@@ -1,6 +1,6 @@
--- Document 01, "To the testers" and "Wrong turns": each impostor is other rules, which do not meet the demand that it breaks. Every one opens as the
--- store does, for without an opening there is no list of calls. But for what its sentence says it is the store: it makes the store's checks, and its
--- count of entries is the length of its list.
+-- Document 01, "To the testers" and "Wrong turns": each impostor is other rules, which do not meet the demand that it breaks. Every one
+-- opens as the store does, for without an opening there is no list of calls. But for what its sentence says it is the store: all but
+-- `turnsAway` make the store's checks, and but for `miscounts` a count of entries is the length of the list.
 use Prim.Native.Nat.{ℕ, zero, suc, _+_}
 use mathlib.Core.Bool.{Bool, _&&_, _||_, not, cond}
 use mathlib.Core.List.{List, [], _∷_, _++_}
@@ -67,8 +67,8 @@ instead reads finishes finish-stores settles settle-stores reclaims reclaim-stor
 -- read with another answer past its checks
 abbrev pub withRead : Gives ReadReply → Rules
 withRead done =
-    instead (λ img d s r. answered (readFault img d s r) (readRefused d) (done img d s r)) finishReply finishEntries settleReply settleEntries
-    reclaimReply reclaimEntries recoverReply recoverEntries
+    instead (λ img d s r. answered (readFault img d s r) (readRefused d) (done img d s r)) finishReply finishEntries
+    settleReply settleEntries reclaimReply reclaimEntries recoverReply recoverEntries
 
 -- finish with another count, and with its list changed
 abbrev pub recounted : FinishReply → ℕ → FinishReply
@@ -96,7 +96,8 @@ withReclaim done list =
 abbrev pub withRecover : (List ℕ → RecoverReply) → (List ℕ → List Entry) → Rules
 withRecover done list =
     instead readReply finishReply finishEntries settleReply settleEntries reclaimReply reclaimEntries
-    (λ img len. answered (recoverFault img len) (recoverRefused img) (done img)) (λ img len. answered (recoverFault img len) (λ k. []) (list img))
+    (λ img len. answered (recoverFault img len) (recoverRefused img) (done img))
+    (λ img len. answered (recoverFault img len) (λ k. []) (list img))
 
 -- recover that replays the log at this place first, and lists these entries
 abbrev pub replaying : (List ℕ → ℕ) → (List ℕ → List Entry) → Rules
@@ -217,7 +218,8 @@ clearsEarly =
 abbrev pub inTheWay : Desk → ℕ → ℕ → Bool
 inTheWay d s t =
     not (eqb t s)
-    && (startsBelow (endOf (sessionAt d s .phase)) (sessionAt d t .phase) || isSealed (sessionAt d t .phase) || isPublished (sessionAt d t .phase))
+    && (startsBelow (endOf (sessionAt d s .phase)) (sessionAt d t .phase) || isSealed (sessionAt d t .phase) || isPublished
+    (sessionAt d t .phase))
 
 abbrev pub waitsLong : Desk → ℕ → ℕ
 waitsLong d s = lowest 16 (inTheWay d s)
@@ -236,7 +238,8 @@ heldSealed d s r = not (ownsB d s r) && not (eqb (markAt d r) 0) && isSealed (ho
 abbrev pub showsSealed : Rules
 showsSealed =
     withRead
-    (λ img d s r. cond (heldSealed d s r) (readGives d Copy (copyAt (holderEntry d r) (ownPlace (holderEntry d r) r) .words)) (readDone img d s r))
+    (λ img d s r. cond (heldSealed d s r) (readGives d Copy (copyAt (holderEntry d r) (ownPlace (holderEntry d r) r) .words))
+    (readDone img d s r))
 
 -- ---- the claim
 

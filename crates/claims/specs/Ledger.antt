@@ -1,4 +1,5 @@
--- The ledger: what a list of calls with their answers tells, with no image and no desk; and the answer that is then due, by document 01's rules.
+-- The ledger: what a list of calls with their answers tells, with no image and no desk; and the answer that is then due, by document 01's
+-- rules.
 use Prim.Native.Nat.{ℕ, zero, suc, _*_}
 use mathlib.Core.Bool.{Bool, true, false, cond, not, _&&_}
 use mathlib.Core.Option.{Option, none, some}
@@ -24,12 +25,13 @@ use Rattle.commit.specs.declared.reclaiming.ReclaimAnswer.{ReclaimAnswer}
 use Rattle.commit.specs.declared.reclaiming.ReclaimAnswer.the-variants.{Refused as ReclaimRefused, None, Held, Cleared}
 use Rattle.history.specs.Ledger.{fourWords}
 use Rattle.history.specs.Desk.{Copy, find, put, upd, Session, idle, active, sealed, published, copies, found, firstOf}
-use Rattle.claims.specs.Call.{Call, begin, read, write, abandon, finish, publish, settle, reclaim, Event, began, looked, wrote, abandoned, finished, settled, reclaimed}
+use Rattle.claims.specs.Call.{Call, begin, read, write, abandon, finish, publish, settle, reclaim, Event, began, looked, wrote}
+use Rattle.claims.specs.Call.{abandoned, finished, settled, reclaimed}
 use Rattle.claims.specs.Call.{published as made-public}
 use Rattle.claims.specs.History.{History, feed, viewAt}
 
--- the clock, which is 1 plus the number of ends given; what each session is doing, with its start, persist or end number, its reserved slot and
--- the records it holds with their words; the persist number of each slot, 0 where it is empty; and the history
+-- the clock, which is 1 plus the number of ends given; what each session is doing, with its start, persist or end number, its reserved slot
+-- and the records it holds with their words; the persist number of each slot, 0 where it is empty; and the history
 pub record Ledger : Type 0 where
   pub clock : ℕ
   pub session : ℕ → Session
@@ -320,4 +322,5 @@ due N M L (finish len s) = finished s (ifRoom len FinishRefused (ifSession M s F
 due N M L (publish s) = made-public s (ifSession M s PublishRefused (duePublish (L .clock) (L .session s)))
 due N M L (settle len s) = settled s (ifRoom len SettleRefused (ifSession M s SettleRefused (dueSettle M (L .session) (L .session s))))
 due N M L (reclaim len s) =
-    reclaimed s (ifRoom len ReclaimRefused (ifSession M s ReclaimRefused (dueReclaim M (L .number) s (reclaims (L .number) s (L .session s)))))
+    reclaimed s (ifRoom len ReclaimRefused
+    (ifSession M s ReclaimRefused (dueReclaim M (L .number) s (reclaims (L .number) s (L .session s)))))

@@ -13,9 +13,12 @@ use Rattle.commit.specs.Reclaim.{reclaimFault, reclaimEntries, clearEntries, re
 use Rattle.recovery.specs.Recover.{logAt, recoverFault, recoverEntries, replayEntries, recoverReply}
 
 pub record Lists : Type 0 where
-  pub finish : (img : List ℕ) (d : Desk) (len s : ℕ) → Tidy (finishFault img d len s) (finishReply img d len s .entries) (finishEntries img d len s)
-  pub settle : (img : List ℕ) (d : Desk) (len s : ℕ) → Tidy (settleFault img d len s) (settleReply img d len s .entries) (settleEntries img d len s)
-  pub reclaim : (img : List ℕ) (d : Desk) (len s : ℕ) → Tidy (reclaimFault img d len s) (reclaimReply img d len s .entries) (reclaimEntries img d len s)
+  pub finish : (img : List ℕ) (d : Desk) (len s : ℕ)
+      → Tidy (finishFault img d len s) (finishReply img d len s .entries) (finishEntries img d len s)
+  pub settle : (img : List ℕ) (d : Desk) (len s : ℕ)
+      → Tidy (settleFault img d len s) (settleReply img d len s .entries) (settleEntries img d len s)
+  pub reclaim : (img : List ℕ) (d : Desk) (len s : ℕ)
+      → Tidy (reclaimFault img d len s) (reclaimReply img d len s .entries) (reclaimEntries img d len s)
   pub recover : (img : List ℕ) (len : ℕ) → Tidy (recoverFault img len) (recoverReply img len .entries) (recoverEntries img len)
   -- the entry counts, c being the number of copies
   pub finish-count : (d : Desk) (s : ℕ) → length (sealEntries d s) ≡ 5 * sessionAt d s .count + 4

@@ -1,5 +1,5 @@
--- Recovery after crashes (document 01, "Recover"): the images that calls of recover leave, where power may fail in any of them. `stores` gives
--- the entries of a call of recover, for an image and the length of its trace.
+-- Recovery after crashes (document 01, "Recover"): the images that calls of recover leave, where power may fail in any of them. `stores`
+-- gives the entries of a call of recover, for an image and the length of its trace.
 use Prim.Native.Nat.{ℕ, zero, suc, _+_}
 use mathlib.Core.Bool.{Bool}
 use mathlib.Core.List.{List, [], _∷_}

@@ -1,5 +1,5 @@
--- Document 01, "What is turned away": for every call and every input the number told is the one that the call's checks give, 0 where none refuses,
--- and a refusal changes nothing but what the table lists.
+-- Document 01, "What is turned away": for every call and every input the number told is the one that the call's checks give, 0 where none
+-- refuses, and a refusal changes nothing but what the table lists.
 use Prim.Native.Nat.{ℕ, _-_}
 use mathlib.Core.Bool.{cond}
 use mathlib.Core.Path.{_≡_}
@@ -27,8 +27,8 @@ use Rattle.recovery.specs.Told.{openTold, recoverTold}
 use Rattle.snapshot.specs.Told.{readTold, writeTold}
 use Rattle.commit.specs.Told.{finishTold, settleTold, reclaimTold}
 
--- of a call with this fault, by what it tells and what it leaves: the number told is the fault; refused, it tells this value and leaves what was to
--- be kept
+-- of a call with this fault, by what it tells and what it leaves: the number told is the fault; refused, it tells this value and leaves
+-- what was to be kept
 pub record TurnedAway {A : Type 0} (fault value : ℕ) (told : Told) (left kept : A) : Type 0 where
   pub number : told .number ≡ fault
   pub tells : (fault ≡ 0 → ⊥) → told .value ≡ value

@@ -5,7 +5,8 @@ use Rattle.layout.specs.Entries.{Entry, made}
 use Rattle.layout.specs.Image.{homeWords}
 use Rattle.desk.specs.declared.state.Desk.{Desk}
 use Rattle.history.specs.Desk.{idle}
-use Rattle.claims.specs.Call.{Call, begin, read, write, abandon, finish, publish, settle, reclaim, Event, began, looked, wrote, abandoned, finished, published, settled, reclaimed}
+use Rattle.claims.specs.Call.{Call, begin, read, write, abandon, finish, publish, settle, reclaim, Event, began, looked, wrote}
+use Rattle.claims.specs.Call.{abandoned, finished, published, settled, reclaimed}
 use Rattle.claims.specs.Ledger.{Ledger, note}
 use Rattle.claims.specs.Rules.{Rules}
 

@@ -1,7 +1,7 @@
--- Reclaim (document 01): any phase. It looks at this session's occupied slots, leaving out the slot of a sealed or published transaction. No
--- slot left: "none". Otherwise it takes the one with the smallest persist number, lower slot first. If any slot of the image has a smaller
--- non-zero number the answer is "held" with the smallest. Otherwise it stores 0 there and a fence: 2 entries, "cleared" with the number it
--- had. Checks 1, 2, 3, 4.
+-- Reclaim (document 01): any phase. It looks at this session's occupied slots, leaving out the slot of a sealed or published transaction.
+-- No slot left: "none". Otherwise it takes the one with the smallest persist number, lower slot first. If any slot of the image has a
+-- smaller non-zero number the answer is "held" with the smallest. Otherwise it stores 0 there and a fence: 2 entries, "cleared" with the
+-- number it had. Checks 1, 2, 3, 4.
 use Prim.Native.Nat.{ℕ, _*_}
 use mathlib.Core.Bool.{Bool, _&&_, _||_, cond}
 use mathlib.Core.List.{List, [], _∷_}

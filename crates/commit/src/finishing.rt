@@ -57,8 +57,10 @@ fn gives(desk: Desk, answer: FinishAnswer, entries: u64) -> FinishReply
 // Writes the session's copies as a log to its slot, and seals it. Without copies the session is idle.
 pub fn finish(image: &mut [u64], mut desk: Desk, trace: &mut [u64], session: u64) -> FinishReply
     ensures reply { λ r. ⌜ r ≡ finishReply (now (image .entry)) desk (length (now (trace .entry))) session ⌝ }
-    ensures image { λ r. ⌜ now (image .exit) ≡ made (finishEntries (now (image .entry)) desk (length (now (trace .entry))) session) (now (image .entry)) ⌝ }
-    ensures trace { λ r. ⌜ now (trace .exit) ≡ listed (finishEntries (now (image .entry)) desk (length (now (trace .entry))) session) (now (trace .entry)) ⌝ }
+    ensures image { λ r. ⌜ now (image .exit)
+        ≡ made (finishEntries (now (image .entry)) desk (length (now (trace .entry))) session) (now (image .entry)) ⌝ }
+    ensures trace { λ r. ⌜ now (trace .exit)
+        ≡ listed (finishEntries (now (image .entry)) desk (length (now (trace .entry))) session) (now (trace .entry)) ⌝ }
 {
     let sound = coherent(desk);
     let n = desk.n;

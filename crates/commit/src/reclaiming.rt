@@ -66,8 +66,10 @@ fn answers(desk: Desk, answer: ReclaimAnswer, entries: u64) -> ReclaimReply
 // Empties the older of the session's settled slots, unless an older log is in the image.
 pub fn reclaim(image: &mut [u64], desk: Desk, trace: &mut [u64], session: u64) -> ReclaimReply
     ensures reply { λ r. ⌜ r ≡ reclaimReply (now (image .entry)) desk (length (now (trace .entry))) session ⌝ }
-    ensures image { λ r. ⌜ now (image .exit) ≡ made (reclaimEntries (now (image .entry)) desk (length (now (trace .entry))) session) (now (image .entry)) ⌝ }
-    ensures trace { λ r. ⌜ now (trace .exit) ≡ listed (reclaimEntries (now (image .entry)) desk (length (now (trace .entry))) session) (now (trace .entry)) ⌝ }
+    ensures image { λ r. ⌜ now (image .exit)
+        ≡ made (reclaimEntries (now (image .entry)) desk (length (now (trace .entry))) session) (now (image .entry)) ⌝ }
+    ensures trace { λ r. ⌜ now (trace .exit)
+        ≡ listed (reclaimEntries (now (image .entry)) desk (length (now (trace .entry))) session) (now (trace .entry)) ⌝ }
 {
     let sound = coherent(desk);
     let n = desk.n;

@@ -60,8 +60,10 @@ fn answers(desk: Desk, answer: SettleAnswer, entries: u64) -> SettleReply
 // Sends a published session's copies home, unless an active session has a start below its end.
 pub fn settle(image: &mut [u64], mut desk: Desk, trace: &mut [u64], session: u64) -> SettleReply
     ensures reply { λ r. ⌜ r ≡ settleReply (now (image .entry)) desk (length (now (trace .entry))) session ⌝ }
-    ensures image { λ r. ⌜ now (image .exit) ≡ made (settleEntries (now (image .entry)) desk (length (now (trace .entry))) session) (now (image .entry)) ⌝ }
-    ensures trace { λ r. ⌜ now (trace .exit) ≡ listed (settleEntries (now (image .entry)) desk (length (now (trace .entry))) session) (now (trace .entry)) ⌝ }
+    ensures image { λ r. ⌜ now (image .exit)
+        ≡ made (settleEntries (now (image .entry)) desk (length (now (trace .entry))) session) (now (image .entry)) ⌝ }
+    ensures trace { λ r. ⌜ now (trace .exit)
+        ≡ listed (settleEntries (now (image .entry)) desk (length (now (trace .entry))) session) (now (trace .entry)) ⌝ }
 {
     let sound = coherent(desk);
     let n = desk.n;

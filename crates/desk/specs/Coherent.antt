@@ -36,7 +36,8 @@ slotOk count slot = leb slot 1 && (leb 1 count || eqb slot 0)
 -- unused copy places are zero
 abbrev pub zeroCopyB : RecordCopy → Bool
 zeroCopyB c =
-    eqb (c .rec) 0 && eqb (getD (c .words) 0 0) 0 && eqb (getD (c .words) 1 0) 0 && eqb (getD (c .words) 2 0) 0 && eqb (getD (c .words) 3 0) 0
+    eqb (c .rec) 0 && eqb (getD (c .words) 0 0) 0 && eqb (getD (c .words) 1 0) 0 && eqb (getD (c .words) 2 0) 0 && eqb
+    (getD (c .words) 3 0) 0
 
 -- copied records are below N and differ within a session: no place before j has the record of place j
 abbrev pub freshPlace : Session → ℕ → ℕ → Bool

@@ -15,8 +15,8 @@ sessionFault coherent m s = first (unless coherent 2) (unless (ltb s m) 4)
 abbrev pub deskFault : Desk → ℕ → ℕ
 deskFault d s = sessionFault (coherentB d) (d .m) s
 
--- of a call with an image, on a desk with this N and M: 1 the image's length or header is wrong, 2 the desk is not coherent, its N and M not the
--- header's included, 3 the trace is too short (`room` is true of a call that takes none), 4 the session is at or above M
+-- of a call with an image, on a desk with this N and M: 1 the image's length or header is wrong, 2 the desk is not coherent, its N and M
+-- not the header's included, 3 the trace is too short (`room` is true of a call that takes none), 4 the session is at or above M
 unfoldable pub entryFault : List ℕ → Bool → ℕ → ℕ → Bool → ℕ → ℕ
 entryFault img coherent n m room s =
     first (unless (shapedB img) 1)

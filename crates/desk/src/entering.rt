@@ -1,5 +1,5 @@
-// The first checks of a session call: the lowest refusal number, or 0 where there is none. For the calls with an image, which the crates above
-// have, these are public too.
+// The first checks of a session call: the lowest refusal number, or 0 where there is none. For the calls with an image, which the crates
+// above have, these are public too.
 ghost use mathlib.Core.Bool.{true};
 ghost use mathlib.Core.Path.{_≡_};
 ghost use lib.Dec.{ltb};

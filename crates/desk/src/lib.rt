@@ -18,7 +18,6 @@ pub use publish::PublishAnswer;
 pub use publish::PublishReply;
 pub use session::idle_session;
 pub use session::is_active;
-pub use session::is_idle;
 pub use session::is_published;
 pub use session::is_sealed;
 pub use session::unmark;

@@ -1,6 +1,6 @@
-// Standard input and output through buffers of fixed size. The functions are public for the programs above: they ask for places within the buffer.
-// What the operating system answers is theirs to hand on: how many bytes a read brought (0 at the end of the input and where a read fails), and
-// whether a write took all.
+// Standard input and output through buffers of fixed size. The functions are public for the programs above: they ask for places within the
+// buffer. What the operating system answers is theirs to hand on: how many bytes a read brought (0 at the end of the input and where a read
+// fails), and whether a write took all.
 ghost use mathlib.Core.Path.{_≡_};
 ghost use Prim.Native.Nat.{_+_, _≤_};
 ghost use lib.ListN.{length, drop};

@@ -1,5 +1,5 @@
--- What the rest needs to know of the writes that a sound log denotes: they are writes of home words, and no two disagree. A second form
--- of log is added here, and nowhere else.
+-- What the rest of this crate needs to know of the writes that a sound log denotes: they are writes of home words, and no two disagree. In
+-- this crate this file, specs/Layout.antt and Slots.antt look at the form of a log.
 use Prim.Native.Nat.{ℕ, zero, suc, _+_, _*_, _<_}
 use mathlib.Core.Path.{_≡_, refl}
 use mathlib.Core.Logic.{_⊎_, inl, inr}

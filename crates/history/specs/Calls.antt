@@ -12,8 +12,10 @@ use Rattle.history.specs.Batch.{batch}
 use Rattle.history.specs.Layout.{base, view}
 use Rattle.history.specs.Recover.{oldest}
 use Rattle.history.specs.Batch.{laid}
-use Rattle.history.specs.Desk.{Copy, find, put, writes, flat, Session, idle, active, sealed, published, copies, Desk, with-session, firstOf, holder, before}
-use Rattle.history.specs.History.{Call, begin, read, write, abandon, finish, publish, settle, reclaim, Answer, refused, taken, ok, start, own, copied, home, empty, sealed-at, ended-at, wait, nothing, held, cleared}
+use Rattle.history.specs.Desk.{Copy, find, put, writes, flat, Session, idle, active, sealed, published, copies, Desk, with-session}
+use Rattle.history.specs.Desk.{firstOf, holder, before}
+use Rattle.history.specs.History.{Call, begin, read, write, abandon, finish, publish, settle, reclaim, Answer, refused, taken, ok}
+use Rattle.history.specs.History.{start, own, copied, home, empty, sealed-at, ended-at, wait, nothing, held, cleared}
 
 pub record Reply : Type 0 where
   pub answer : Answer
@@ -130,7 +132,8 @@ abbrev pub publishes : Desk → ℕ → Session → Reply
 publishes d s idle = refuse 6 d
 publishes d s (active b q cs) = refuse 6 d
 publishes d s (sealed n q cs) =
-    say (ended-at (suc (d .clock))) (with-session s (published (suc (d .clock)) q cs) (record { clock = suc (d .clock); session = d .session }))
+    say (ended-at (suc (d .clock)))
+    (with-session s (published (suc (d .clock)) q cs) (record { clock = suc (d .clock); session = d .session }))
 publishes d s (published e q cs) = refuse 6 d
 
 abbrev pub waits : Desk → ℕ → List Copy → Option ℕ → Reply

@@ -28,7 +28,8 @@ spot r j = 4 + 4 * r + j
 abbrev pub writes : List Copy → List Write
 writes [] = []
 writes (c ∷ cs) =
-    (4 + 4 * c .0, getD (c .1) 0 0) ∷ (4 + 4 * c .0 + 1, getD (c .1) 1 0) ∷ (4 + 4 * c .0 + 2, getD (c .1) 2 0) ∷ (4 + 4 * c .0 + 3, getD (c .1) 3 0) ∷ writes cs
+    (4 + 4 * c .0, getD (c .1) 0 0) ∷ (4 + 4 * c .0 + 1, getD (c .1) 1 0) ∷ (4 + 4 * c .0 + 2, getD (c .1) 2 0) ∷
+    (4 + 4 * c .0 + 3, getD (c .1) 3 0) ∷ writes cs
 
 -- the words of copies in a log, behind the count
 abbrev pub flat : List Copy → List ℕ

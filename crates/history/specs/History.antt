@@ -85,7 +85,8 @@ abbrev pub drafted : ℕ → List Copy → History → History
 drafted s cs h = record { opening = h .opening; seals = h .seals; draft = upd s cs (h .draft); start = h .start }
 
 abbrev pub sealing : ℕ → History → History
-sealing s h = record { opening = h .opening; seals = record { session = s; draft = h .draft s; end = none } ∷ h .seals; draft = h .draft; start = h .start }
+sealing s h = record
+    { opening = h .opening; seals = record { session = s; draft = h .draft s; end = none } ∷ h .seals; draft = h .draft; start = h .start }
 
 abbrev pub ending : ℕ → ℕ → History → History
 ending s e h = record { opening = h .opening; seals = ended s e (h .seals); draft = h .draft; start = h .start }

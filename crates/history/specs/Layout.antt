@@ -31,7 +31,8 @@ word b k j = getD b (2 + 5 * k + j) 0
 -- the writes of place k, and of the first c places
 unfoldable pub copy : List ℕ → ℕ → List Write
 copy b k =
-    (4 + 4 * rec b k, word b k 0) ∷ (4 + 4 * rec b k + 1, word b k 1) ∷ (4 + 4 * rec b k + 2, word b k 2) ∷ (4 + 4 * rec b k + 3, word b k 3) ∷ []
+    (4 + 4 * rec b k, word b k 0) ∷ (4 + 4 * rec b k + 1, word b k 1) ∷ (4 + 4 * rec b k + 2, word b k 2) ∷
+    (4 + 4 * rec b k + 3, word b k 3) ∷ []
 
 unfoldable pub copies : List ℕ → ℕ → List Write
 copies b zero = []
@@ -54,4 +55,5 @@ view N img = record { number = λ p. getD img (base N p) 0; log = λ p. denoted 
 pub record Good (N M : ℕ) (img : List ℕ) : Type 0 where
   pub whole : length img ≡ 4 + 4 * N + 44 * M
   pub sound : (p : ℕ) → Occupied (2 * M) (view N img) p → Sound N (body N img p)
-  pub apart : (p q i v w : ℕ) → p ≢ q → Puts (2 * M) (view N img) p i v → Puts (2 * M) (view N img) q i w → getD img (base N p) 0 ≢ getD img (base N q) 0
+  pub apart : (p q i v w : ℕ) → p ≢ q → Puts (2 * M) (view N img) p i v → Puts (2 * M) (view N img) q i w
+      → getD img (base N p) 0 ≢ getD img (base N q) 0

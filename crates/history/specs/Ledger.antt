@@ -7,8 +7,11 @@ use lib.ListN.{getD}
 use lib.Dec.{eqb, leb}
 use Rattle.history.specs.Log.{State}
 use Rattle.history.specs.Desk.{Copy, find, put, Session, idle, active, sealed, published, Desk, upd, with-session, holder}
-use Rattle.history.specs.History.{Call, begin, read, write, abandon, finish, publish, settle, reclaim, Answer, refused, taken, ok, start, own, copied, home, empty, sealed-at, ended-at, wait, nothing, held, cleared, History, feed, seen-at}
-use Rattle.history.specs.Calls.{place, say, begins, shown, held-by, wrote, abandons, finishes, publishes, settles, candidate, reclaims}
+use Rattle.history.specs.History.{Call, begin, read, write, abandon, finish, publish, settle, reclaim, Answer, refused, taken, ok}
+use Rattle.history.specs.History.{start, own, copied, home, empty, sealed-at, ended-at, wait, nothing, held, cleared, History, feed}
+use Rattle.history.specs.History.{seen-at}
+use Rattle.history.specs.Calls.{place, say, begins, shown, held-by, wrote, abandons, finishes, publishes, settles, candidate}
+use Rattle.history.specs.Calls.{reclaims}
 use Rattle.history.specs.Run.{slot-of}
 
 -- what an answer says
@@ -135,7 +138,8 @@ pub record Ledger : Type 0 where
   pub history : History
 
 unfoldable pub note : Call → Answer → Ledger → Ledger
-note c a L = record { desk = redesk c a (L .number) (L .desk); number = renumber c a (L .number) (L .desk); history = feed c a (L .history) }
+note c a L = record
+    { desk = redesk c a (L .number) (L .desk); number = renumber c a (L .number) (L .desk); history = feed c a (L .history) }
 
 -- ---- the answer that is due
 
@@ -160,7 +164,8 @@ due-read M d h r (published e q cs) = refused 6
 abbrev pub due-of : ℕ → ℕ → (ℕ → ℕ) → Desk → History → Call → Answer
 due-of N M f d h (begin s) = cond (leb M s) (refused 4) (begins d s (d .session s) .answer)
 due-of N M f d h (read s r) = cond (leb M s) (refused 4) (cond (leb N r) (refused 5) (due-read M d h r (d .session s)))
-due-of N M f d h (write s r ws) = cond (leb M s) (refused 4) (cond (leb N r) (refused 5) (wrote M (slots f) d s r ws (d .session s) .answer))
+due-of N M f d h (write s r ws) = cond (leb M s) (refused 4)
+    (cond (leb N r) (refused 5) (wrote M (slots f) d s r ws (d .session s) .answer))
 due-of N M f d h (abandon s) = cond (leb M s) (refused 4) (abandons d s (d .session s) .answer)
 due-of N M f d h (finish s) = cond (leb M s) (refused 4) (finishes N d s (d .session s) .answer)
 due-of N M f d h (publish s) = cond (leb M s) (refused 4) (publishes d s (d .session s) .answer)

@@ -5,7 +5,8 @@ use mathlib.Core.Option.{none, some}
 use lib.ListN.{getD}
 use Rattle.history.specs.Layout.{view}
 use Rattle.history.specs.Desk.{find}
-use Rattle.history.specs.History.{read, Answer, refused, taken, ok, start, own, copied, home, empty, sealed-at, ended-at, wait, nothing, held, cleared, History, seen-at}
+use Rattle.history.specs.History.{read, Answer, refused, taken, ok, start, own, copied, home, empty, sealed-at, ended-at, wait}
+use Rattle.history.specs.History.{nothing, held, cleared, History, seen-at}
 use Rattle.history.specs.Run.{answer}
 
 -- the words ws are those of the draft, or of the history's view at the start of session s

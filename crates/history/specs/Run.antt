@@ -8,7 +8,9 @@ use Rattle.layout.specs.Entries.{made}
 use Rattle.layout.specs.Crash.{crashed as cut}
 use Rattle.history.specs.Layout.{base}
 use Rattle.history.specs.Desk.{Session, idle, active, sealed, published, Desk}
-use Rattle.history.specs.History.{Call, begin, read, write, abandon, finish, publish, settle, reclaim, Answer, refused, taken, ok, start, own, copied, home, empty, sealed-at, ended-at, wait, nothing, held, cleared, History, feed, sealing}
+use Rattle.history.specs.History.{Call, begin, read, write, abandon, finish, publish, settle, reclaim, Answer, refused, taken, ok}
+use Rattle.history.specs.History.{start, own, copied, home, empty, sealed-at, ended-at, wait, nothing, held, cleared, History, feed}
+use Rattle.history.specs.History.{sealing}
 use Rattle.history.specs.Calls.{Reply, reply, place, home-words}
 
 pub record World : Type 0 where
@@ -77,9 +79,6 @@ crash-feed N d (abandon s) a img h = h
 crash-feed N d (publish s) a img h = h
 crash-feed N d (settle s) a img h = h
 crash-feed N d (reclaim s) a img h = h
-
-unfoldable pub crashed-image : ℕ → ℕ → World → Call → ℕ → (ℕ → Bool) → List ℕ
-crashed-image N M w c k sel = cut k sel (answer N M w c .entries) (w .image)
 
 -- the answers along a list of calls
 unfoldable pub answers : ℕ → ℕ → List Call → World → List Answer

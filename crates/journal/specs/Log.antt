@@ -1,4 +1,5 @@
--- The form of a log, and what it denotes. Nothing outside this file knows the form. A log is read by the words of its slot, as a function of
+-- The form of a log, and what it denotes. The code of this crate writes and reads it. Crate `history` states the form a second time
+-- (specs/Layout.antt), and claims/proofs/SameLog.antt shows that the two agree. A log is read by the words of its slot, as a function of
 -- their place: word 0 the persist number, word 1 the count of copies, then 4 places of 5 words, record number and record words.
 use Prim.Native.Nat.{ℕ, zero, suc, _+_, _*_}
 use mathlib.Core.Bool.{Bool, _&&_, _||_, not}
@@ -30,7 +31,8 @@ denoted f = homesWrites (recOf f) (wordsOf f) (countOf f)
 -- the five words of place j, by their places in the slot: record number, record words
 abbrev pub placeWrites : ℕ → ℕ → List ℕ → List Write
 placeWrites j r ws =
-    (2 + 5 * j, r) ∷ (2 + 5 * j + 1, getD ws 0 0) ∷ (2 + 5 * j + 2, getD ws 1 0) ∷ (2 + 5 * j + 3, getD ws 2 0) ∷ (2 + 5 * j + 4, getD ws 3 0) ∷ []
+    (2 + 5 * j, r) ∷ (2 + 5 * j + 1, getD ws 0 0) ∷ (2 + 5 * j + 2, getD ws 1 0) ∷ (2 + 5 * j + 3, getD ws 2 0) ∷
+    (2 + 5 * j + 4, getD ws 3 0) ∷ []
 
 -- the body of a log with `count` copies: the count, and the first k of them
 unfoldable pub bodyWrites : (ℕ → ℕ) → (ℕ → List ℕ) → ℕ → ℕ → List Write

@@ -1,5 +1,5 @@
-// The redo log: its form, what it denotes, when it is not sound, when two are tied, the oldest of some; writing one, and its copies going home.
-// Everything here is for the crates above alone: the functions say what they need.
+// The redo log: its form, what it denotes, when it is not sound, when two are tied, the oldest of some; writing one, and its copies going
+// home. Everything here is for the crates above alone: the functions say what they need.
 mod log;
 mod logs;
 mod replay;

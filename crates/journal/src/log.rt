@@ -24,7 +24,9 @@ fn put_place(
     words: [u64; 4],
 ) -> usize
     requires { ⌜ Room 5 base (2 + 5 * place) at (now slot) (now trace) ⌝ }
-    ensures { λ r. ⌜ Did (stores (placeWrites place rec words)) base at (now (slot .entry)) (now (trace .entry)) (now (slot .exit)) (now (trace .exit)) r ⌝ }
+    ensures { λ r.
+        ⌜ Did (stores (placeWrites place rec words)) base at (now (slot .entry)) (now (trace .entry)) (now (slot .exit))
+        (now (trace .exit)) r ⌝ }
 {
     let i = 2 + 5 * place;
     let next = layout::put_store(slot, base, trace, at, i, rec);
@@ -40,7 +42,9 @@ fn put_copies(
     count: u64,
 ) -> usize
     requires { ⌜ (count ≤ 4) × Room (1 + 5 * count) base 1 0 (now slot) (now trace) ⌝ }
-    ensures { λ r. ⌜ Did (stores (bodyWrites (λ j. getD copies j noCopy .rec) (λ j. getD copies j noCopy .words) count count)) base 0 (now (slot .entry)) (now (trace .entry)) (now (slot .exit)) (now (trace .exit)) r ⌝ }
+    ensures { λ r.
+        ⌜ Did (stores (bodyWrites (λ j. getD copies j noCopy .rec) (λ j. getD copies j noCopy .words) count count)) base 0
+        (now (slot .entry)) (now (trace .entry)) (now (slot .exit)) (now (trace .exit)) r ⌝ }
     ensures { λ r. ⌜ r ≡ 2 + 10 * count ⌝ }
 {
     let mut next = layout::put_store(slot, base, trace, 0, COUNT_WORD, count);
@@ -65,8 +69,11 @@ pub fn write_log(
     persist: u64,
 )
     requires { ⌜ (count ≤ 4) × (22 ≤ length (now slot)) × (48 ≤ length (now trace)) × (base + 22 < 2 ^ 64) ⌝ }
-    ensures image { λ r. ⌜ now (slot .exit) ≡ made (logEntries persist (λ j. getD copies j noCopy .rec) (λ j. getD copies j noCopy .words) count) (now (slot .entry)) ⌝ }
-    ensures trace { λ r. ⌜ now (trace .exit) ≡ listed (shift base (logEntries persist (λ j. getD copies j noCopy .rec) (λ j. getD copies j noCopy .words) count)) (now (trace .entry)) ⌝ }
+    ensures image { λ r. ⌜ now (slot .exit)
+        ≡ made (logEntries persist (λ j. getD copies j noCopy .rec) (λ j. getD copies j noCopy .words) count) (now (slot .entry)) ⌝ }
+    ensures trace { λ r. ⌜ now (trace .exit)
+        ≡ listed (shift base (logEntries persist (λ j. getD copies j noCopy .rec) (λ j. getD copies j noCopy .words) count))
+        (now (trace .entry)) ⌝ }
 {
     let a = put_copies(slot, base, trace, copies, count);
     let b = layout::put_fence(trace, a);

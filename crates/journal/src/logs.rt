@@ -10,7 +10,8 @@ use layout::slot_word;
 // Whether an earlier place of the log has the record of place j.
 fn repeats(image: &[u64], n: u64, place: u64, j: u64) -> bool
     requires { ⌜ (n ≤ 256) × (place ≤ 32) × (j < 4) ⌝ }
-    ensures { λ r. ⌜ r ≡ anyBelow j (λ i. eqb (recOf (slotWord (now (image .entry)) n place) i) (recOf (slotWord (now (image .entry)) n place) j)) ⌝ }
+    ensures { λ r. ⌜ r
+        ≡ anyBelow j (λ i. eqb (recOf (slotWord (now (image .entry)) n place) i) (recOf (slotWord (now (image .entry)) n place) j)) ⌝ }
 {
     let rec = slot_word(image, n, place, 2 + 5 * j);
     let mut i: u64 = 0;

@@ -1,5 +1,5 @@
-// The copies that a log holds, and copies that go home. For the crates above: N, places and records are small and there is room in the trace, which
-// their checks have shown.
+// The copies that a log holds, and copies that go home. For the crates above: N, places and records are small and there is room in the
+// trace, which their checks have shown.
 ghost use mathlib.Core.Path.{_≡_};
 ghost use Prim.Native.Nat.{ℕ, _+_, _*_, _≤_, _<_};
 ghost use lib.ListN.{length, getD};
@@ -44,7 +44,8 @@ fn place_words(image: &[u64], n: u64, place: u64, j: u64) -> [u64; 4]
 // The copy at place j of a log.
 fn log_copy(image: &[u64], n: u64, place: u64, j: u64) -> RecordCopy
     requires { ⌜ (n ≤ 256) × (place ≤ 32) × (j < 4) ⌝ }
-    ensures { λ r. ⌜ r ≡ record { rec = recOf (slotWord (now (image .entry)) n place) j; words = wordsOf (slotWord (now (image .entry)) n place) j } ⌝ }
+    ensures { λ r. ⌜ r
+        ≡ record { rec = recOf (slotWord (now (image .entry)) n place) j; words = wordsOf (slotWord (now (image .entry)) n place) j } ⌝ }
 {
     let rec = place_rec(image, n, place, j);
     let words = place_words(image, n, place, j);
@@ -57,7 +58,8 @@ fn log_copy(image: &[u64], n: u64, place: u64, j: u64) -> RecordCopy
 // The copies of a log, in the order of its places.
 pub fn log_copies(image: &[u64], n: u64, place: u64) -> [RecordCopy; 4]
     requires { ⌜ (n ≤ 256) × (place ≤ 32) ⌝ }
-    ensures { λ r. ⌜ ((j : ℕ) → j < 4 → getD r j noCopy ≡ record { rec = recOf (slotWord (now (image .entry)) n place) j; words = wordsOf (slotWord (now (image .entry)) n place) j }) ⌝ }
+    ensures { λ r. ⌜ ((j : ℕ) → j < 4 → getD r j noCopy
+        ≡ record { rec = recOf (slotWord (now (image .entry)) n place) j; words = wordsOf (slotWord (now (image .entry)) n place) j }) ⌝ }
 {
     let a = log_copy(image, n, place, 0);
     let b = log_copy(image, n, place, 1);
@@ -69,8 +71,11 @@ pub fn log_copies(image: &[u64], n: u64, place: u64) -> [RecordCopy; 4]
 // Stores the first `count` copies to their homes, listed from the trace's first word; the answer is the place of the next entry.
 pub fn put_homes(image: &mut [u64], trace: &mut [u64], copies: [RecordCopy; 4], count: u64) -> usize
     requires { ⌜ (count ≤ 4) × (8 * count ≤ length (now trace)) ⌝ }
-    requires { ⌜ ((j : ℕ) → j < count → (getD copies j noCopy .rec < 256) × (homeAt (getD copies j noCopy .rec) + 4 ≤ length (now image))) ⌝ }
-    ensures { λ r. ⌜ Did (stores (homesWrites (λ j. getD copies j noCopy .rec) (λ j. getD copies j noCopy .words) count)) 0 0 (now (image .entry)) (now (trace .entry)) (now (image .exit)) (now (trace .exit)) r ⌝ }
+    requires { ⌜ ((j : ℕ) → j < count
+        → (getD copies j noCopy .rec < 256) × (homeAt (getD copies j noCopy .rec) + 4 ≤ length (now image))) ⌝ }
+    ensures { λ r.
+        ⌜ Did (stores (homesWrites (λ j. getD copies j noCopy .rec) (λ j. getD copies j noCopy .words) count)) 0 0 (now (image .entry))
+        (now (trace .entry)) (now (image .exit)) (now (trace .exit)) r ⌝ }
     ensures { λ r. ⌜ r ≡ 8 * count ⌝ }
 {
     let mut j: u64 = 0;

@@ -1,4 +1,5 @@
-// Scans of the persist numbers of an image's slots. For the crates above: N and the number of slots are small, which their checks have shown.
+// Scans of the persist numbers of an image's slots. For the crates above: N and the number of slots are small, which their checks have
+// shown.
 ghost use mathlib.Core.Path.{_≡_};
 ghost use Prim.Native.Nat.{_≤_, _<_};
 ghost use Rattle.layout.specs.Image.{persistAt, occupiedB};

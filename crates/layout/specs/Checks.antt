@@ -1,4 +1,5 @@
--- How a call refuses (document 01, "What is turned away"): its checks are made lowest number first, and the first that fails gives the number.
+-- How a call refuses (document 01, "What is turned away"): its checks are made lowest number first, and the first that fails gives the
+-- number.
 use Prim.Native.Nat.{ℕ, zero, suc}
 use mathlib.Core.Bool.{Bool, cond}
 use lib.Dec.{leb}

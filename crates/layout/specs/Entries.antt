@@ -1,5 +1,6 @@
--- Stores and fences (document 01, "Stores and fences"): what a call does to an image is a list of entries. The image afterwards is the image
--- before with the listed stores made; the trace (document 01's strip) has two words an entry in front, and the words past them as they were.
+-- Stores and fences (document 01, "Stores and fences"): what a call does to an image is a list of entries. The image afterwards is the
+-- image before with the listed stores made; the trace (document 01's strip) has two words an entry in front, and the words past them as
+-- they were.
 use Prim.Native.Nat.{ℕ, _+_}
 use mathlib.Core.Bool.{Bool, true, false, _&&_, not}
 use mathlib.Core.List.{List, [], _∷_, _++_}

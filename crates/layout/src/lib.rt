@@ -1,4 +1,4 @@
-// The image: where its parts lie, reading and laying it, and storing to it with a trace of every store.
+// The image: where its parts lie, reading and laying it, and storing to it with a trace (document 01's strip) of every store.
 // `lay` is a call that users make. `index` and `trace` are for the crates above alone: their functions say what they need.
 mod image;
 mod index;
@@ -7,7 +7,6 @@ mod trace;
 
 pub use image::shaped;
 pub use image::word;
-pub use index::home_at;
 pub use index::home_words;
 pub use index::slot_at;
 pub use index::slot_word;

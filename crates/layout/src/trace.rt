@@ -56,7 +56,8 @@ pub fn put_words(
     words: [u64; 4],
 ) -> usize
     requires { ⌜ Room 4 base i at (now part) (now trace) ⌝ }
-    ensures { λ r. ⌜ Did (stores (wordWrites i words)) base at (now (part .entry)) (now (trace .entry)) (now (part .exit)) (now (trace .exit)) r ⌝ }
+    ensures { λ r.
+        ⌜ Did (stores (wordWrites i words)) base at (now (part .entry)) (now (trace .entry)) (now (part .exit)) (now (trace .exit)) r ⌝ }
 {
     let a = put_store(part, base, trace, at, i, words[0]);
     let b = put_store(part, base, trace, a, i + 1, words[1]);
@@ -67,7 +68,8 @@ pub fn put_words(
 // A record's four words to its home in the image.
 pub fn put_home(image: &mut [u64], trace: &mut [u64], at: usize, rec: u64, words: [u64; 4]) -> usize
     requires { ⌜ (rec ≤ 256) × Room 4 0 (homeAt rec) at (now image) (now trace) ⌝ }
-    ensures { λ r. ⌜ Did (stores (homeWrites rec words)) 0 at (now (image .entry)) (now (trace .entry)) (now (image .exit)) (now (trace .exit)) r ⌝ }
+    ensures { λ r.
+        ⌜ Did (stores (homeWrites rec words)) 0 at (now (image .entry)) (now (trace .entry)) (now (image .exit)) (now (trace .exit)) r ⌝ }
 {
     let i = home_at(rec) as usize;
     put_words(image, 0, trace, at, i, words)

@@ -1,11 +1,9 @@
--- Laws of bytes put into a buffer: some bytes and then others, and what the buffer then holds.
+-- Laws of bytes put into a buffer: some bytes and then others, and none.
 use mathlib.Core.Path.{_≡_, refl, ap, _∙_}
-use mathlib.Core.List.{List, [], _∷_, _++_, append-assoc}
-use Prim.Native.Nat.{ℕ, _+_, _≤_}
-use native.Mathlib.Numerals.{add-one}
+use mathlib.Core.List.{List, [], _∷_, _++_}
+use Prim.Native.Nat.{ℕ, _+_}
 use native.Mathlib.Omega.{arith}
-use lib.ListN.{length, set, take, drop, length-append}
-use lib.Seq.{sets, sets-eq}
+use lib.ListN.{length, set, length-append}
 use Rattle.lines.specs.Put.{put, Put}
 
 pub put-append : (at : ℕ) (xs bs out : List ℕ) → put at (xs ++ bs) out ≡ put (at + length xs) bs (put at xs out)
@@ -24,11 +22,3 @@ and-then {xs} {bs} {out} {out₁} {out₂} {at} {r} {s} p q =
 -- nothing was put
 pub put-none : {at : ℕ} {out : List ℕ} → Put [] at out out at
 put-none = record { wrote = refl; next = omega arith }
-
-put-sets : (at : ℕ) (bs out : List ℕ) → put at bs out ≡ sets out at bs
-put-sets at [] out = refl
-put-sets at (b ∷ bs) out = put-sets (at + 1) bs (set out at b) ∙ rw add-one
-
--- the buffer is as it was before the place and past the bytes
-pub put-whole : (at : ℕ) (bs out : List ℕ) → at + length bs ≤ length out → put at bs out ≡ take at out ++ (bs ++ drop (at + length bs) out)
-put-whole at bs out h = put-sets at bs out ∙ sets-eq bs out at h ∙ append-assoc (take at out) bs (drop (at + length bs) out)

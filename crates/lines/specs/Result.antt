@@ -4,7 +4,8 @@ use mathlib.Core.List.{List, [], _∷_, _++_}
 use Rattle.lines.specs.Line.{headOf, resultOf, stepHead}
 use Rattle.codec.specs.declared.step.Step.{Step}
 use Rattle.lines.specs.declared.outcome.Outcome.{Outcome}
-use Rattle.lines.specs.declared.outcome.Outcome.the-variants.{Refused, Ok, Start, End, Sealed, Empty, Own, Copy, Home, Wait, None, Held, Cleared, Cut, Noted}
+use Rattle.lines.specs.declared.outcome.Outcome.the-variants.{Refused, Ok, Start, End, Sealed, Empty, Own, Copy, Home, Wait, None}
+use Rattle.lines.specs.declared.outcome.Outcome.the-variants.{Held, Cleared, Cut, Noted}
 
 -- results: ok; start, end or sealed with a number; empty; four words and own, copy or home; wait, held or cleared with a number; none;
 -- "no K"; "cut" for the step that is cut; step 9 prints no result

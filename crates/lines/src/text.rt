@@ -84,7 +84,8 @@ pub fn put_head(out: &mut [u8], at: usize, number: u64, name: &[u8], args: &[u64
 // A result: a word, numbers, a word; what is empty leaves no field.
 pub fn put_result(out: &mut [u8], at: usize, word: &[u8], values: &[u64], last: &[u8]) -> usize
     requires { ⌜ (at + 118 ≤ length (now out)) × (length (now word) ≤ 16) × (length (now values) ≤ 4) × (length (now last) ≤ 16) ⌝ }
-    ensures { λ r. ⌜ Put (resultOf (now (word .entry)) (now (values .entry)) (now (last .entry))) at (now (out .entry)) (now (out .exit)) r ⌝ }
+    ensures { λ r.
+        ⌜ Put (resultOf (now (word .entry)) (now (values .entry)) (now (last .entry))) at (now (out .entry)) (now (out .exit)) r ⌝ }
     ensures { λ r. ⌜ r ≤ at + 118 ⌝ }
 {
     let a = put_field(out, at, word);

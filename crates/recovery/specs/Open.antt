@@ -1,5 +1,5 @@
--- Open (document 01): all slots empty; it gives a desk with clock 1, all idle. Checks 1 and 11; refused, it gives a desk with clock, N and M 0,
--- all idle, unmarked.
+-- Open (document 01): all slots empty; it gives a desk with clock 1, all idle. Checks 1 and 11; refused, it gives a desk with clock, N and
+-- M 0, all idle, unmarked.
 use Prim.Native.Nat.{ℕ, _*_}
 use mathlib.Core.Bool.{not}
 use mathlib.Core.List.{List}

@@ -103,8 +103,10 @@ fn refused(image: &[u64], fault: u64) -> RecoverReply
 // Replays the oldest log, if there is one, and empties its slot.
 pub fn recover(image: &mut [u64], trace: &mut [u64]) -> RecoverReply
     ensures reply { λ r. ⌜ r ≡ recoverReply (now (image .entry)) (length (now (trace .entry))) ⌝ }
-    ensures image { λ r. ⌜ now (image .exit) ≡ made (recoverEntries (now (image .entry)) (length (now (trace .entry)))) (now (image .entry)) ⌝ }
-    ensures trace { λ r. ⌜ now (trace .exit) ≡ listed (recoverEntries (now (image .entry)) (length (now (trace .entry)))) (now (trace .entry)) ⌝ }
+    ensures image { λ r. ⌜ now (image .exit)
+        ≡ made (recoverEntries (now (image .entry)) (length (now (trace .entry)))) (now (image .entry)) ⌝ }
+    ensures trace { λ r. ⌜ now (trace .exit)
+        ≡ listed (recoverEntries (now (image .entry)) (length (now (trace .entry)))) (now (trace .entry)) ⌝ }
 {
     let fault = recover_fault(image, trace.len());
     if fault != 0 {

@@ -1,5 +1,5 @@
--- Read (document 01): active only. Own copy if there is one. Otherwise, if the holder is published with end at most this start, the holder's
--- copy. Otherwise the home record. Checks 1, 2, 4, 5, 6.
+-- Read (document 01): active only. Own copy if there is one. Otherwise, if the holder is published with end at most this start, the
+-- holder's copy. Otherwise the home record. Checks 1, 2, 4, 5, 6.
 use Prim.Native.Nat.{ℕ, _-_}
 use mathlib.Core.Bool.{Bool, true, false, _&&_, not, cond}
 use mathlib.Core.List.{List}

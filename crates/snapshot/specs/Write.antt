@@ -1,5 +1,6 @@
--- Write of four words (document 01): active only. An own copy is overwritten. Otherwise the record is marked and copied. At the first copy the
--- lowest empty slot of the session is reserved. Checks 1, 2, 4, 5, 6, 7, 8, 9; 7 leaves the caller idle with its marks and copies dropped.
+-- Write of four words (document 01): active only. An own copy is overwritten. Otherwise the record is marked and copied. At the first copy
+-- the lowest empty slot of the session is reserved. Checks 1, 2, 4, 5, 6, 7, 8, 9; 7 leaves the caller idle with its marks and copies
+-- dropped.
 use Prim.Native.Nat.{ℕ, _+_, _-_}
 use mathlib.Core.Bool.{Bool, true, _||_, not, cond}
 use mathlib.Core.List.{List}
@@ -24,8 +25,8 @@ slotEmpty img n s q = eqb (persistAt img n (placeOf s q)) 0
 abbrev pub emptySlot : List ℕ → ℕ → ℕ → ℕ
 emptySlot img n s = lowest 2 (slotEmpty img n s)
 
--- what is asked of a record that the session does not copy, so that a mark is another's: 7 another session holds it, 8 it is the fifth, 9 it is
--- the first and both slots are occupied
+-- what is asked of a record that the session does not copy, so that a mark is another's: 7 another session holds it, 8 it is the fifth, 9
+-- it is the first and both slots are occupied
 unfoldable pub copyFault : ℕ → ℕ → ℕ → ℕ
 copyFault mark count free = first (unless (eqb mark 0) 7) (first (unless (ltb count 4) 8) (unless (leb 1 count || ltb free 2) 9))
 
@@ -35,7 +36,9 @@ ownsB d s r = ltb (ownPlace (sessionAt d s) r) 4
 unfoldable pub writeFault : List ℕ → Desk → ℕ → ℕ → ℕ
 writeFault img d s r =
     first (imageFault img d true s)
-    (first (unless (ltb r (d .n)) 5) (first (unless (isActive (sessionAt d s .phase)) 6) (cond (ownsB d s r) 0 (copyFault (markAt d r) (sessionAt d s .count) (emptySlot img (d .n) s)))))
+    (first (unless (ltb r (d .n)) 5)
+    (first (unless (isActive (sessionAt d s .phase)) 6)
+    (cond (ownsB d s r) 0 (copyFault (markAt d r) (sessionAt d s .count) (emptySlot img (d .n) s)))))
 
 abbrev pub writeSays : Desk → WriteAnswer → WriteReply
 writeSays d a = record { answer = a; desk = d }
@@ -65,7 +68,8 @@ copied img d s r ws =
       n = d .n;
       m = d .m;
       holders = set (d .holders) r (s + 1);
-      sessions = set (d .sessions) s (extended (sessionAt d s) r ws (reserved (sessionAt d s .count) (emptySlot img (d .n) s) (sessionAt d s .slot)));
+      sessions = set (d .sessions) s
+          (extended (sessionAt d s) r ws (reserved (sessionAt d s .count) (emptySlot img (d .n) s) (sessionAt d s .slot)));
     }
 
 abbrev pub writeDone : List ℕ → Desk → ℕ → ℕ → List ℕ → WriteReply

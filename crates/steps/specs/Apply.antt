@@ -20,7 +20,8 @@ use Rattle.commit.specs.Finish.{finishEntries, finishReply}
 use Rattle.commit.specs.Settle.{settleEntries, settleReply}
 use Rattle.commit.specs.Reclaim.{reclaimEntries, reclaimReply}
 use Rattle.snapshot.specs.declared.reading.ReadAnswer.{ReadAnswer}
-use Rattle.snapshot.specs.declared.reading.ReadAnswer.the-variants.{Refused as ReadRefused, Own as OwnRead, Copy as CopyRead, Home as HomeRead}
+use Rattle.snapshot.specs.declared.reading.ReadAnswer.the-variants.{Refused as ReadRefused, Own as OwnRead, Copy as CopyRead}
+use Rattle.snapshot.specs.declared.reading.ReadAnswer.the-variants.{Home as HomeRead}
 use Rattle.snapshot.specs.declared.writing.WriteAnswer.{WriteAnswer}
 use Rattle.snapshot.specs.declared.writing.WriteAnswer.the-variants.{Refused as WriteRefused, Taken, Ok as Written}
 use Rattle.commit.specs.declared.finishing.FinishAnswer.{FinishAnswer}
@@ -28,11 +29,13 @@ use Rattle.commit.specs.declared.finishing.FinishAnswer.the-variants.{Refused a
 use Rattle.commit.specs.declared.settling.SettleAnswer.{SettleAnswer}
 use Rattle.commit.specs.declared.settling.SettleAnswer.the-variants.{Refused as SettleRefused, Wait as WaitFor, Ok as Settled}
 use Rattle.commit.specs.declared.reclaiming.ReclaimAnswer.{ReclaimAnswer}
-use Rattle.commit.specs.declared.reclaiming.ReclaimAnswer.the-variants.{Refused as ReclaimRefused, None as NoneLeft, Held as HeldBy, Cleared as ClearedOf}
+use Rattle.commit.specs.declared.reclaiming.ReclaimAnswer.the-variants.{Refused as ReclaimRefused, None as NoneLeft, Held as HeldBy}
+use Rattle.commit.specs.declared.reclaiming.ReclaimAnswer.the-variants.{Cleared as ClearedOf}
 use Rattle.codec.specs.declared.step.Step.{Step}
 use Rattle.codec.specs.declared.step.Step.the-variants.{Lay, Begin, Read, Write, Finish, Publish, Settle, Reclaim, Abandon, Cut}
 use Rattle.lines.specs.declared.outcome.Outcome.{Outcome}
-use Rattle.lines.specs.declared.outcome.Outcome.the-variants.{Refused, Ok, Start, End, Sealed, Empty, Own, Copy, Home, Wait, None, Held, Cleared, Noted}
+use Rattle.lines.specs.declared.outcome.Outcome.the-variants.{Refused, Ok, Start, End, Sealed, Empty, Own, Copy, Home, Wait, None, Held}
+use Rattle.lines.specs.declared.outcome.Outcome.the-variants.{Cleared, Noted}
 use Rattle.steps.specs.declared.applying.Applied.{Applied}
 
 -- the result that a line shows, of each call's answer

@@ -1,5 +1,5 @@
--- A cut (document 01, "The program"): of a step that stores, only the first k entries arrive, all if it has fewer. The image of before the step
--- is kept, the step is made, and the first entries of its trace are then made again on the image that was kept.
+-- A cut (document 01, "The program"): of a step that stores, only the first k entries arrive, all if it has fewer. The image of before the
+-- step is kept, the step is made, and the first entries of its trace are then made again on the image that was kept.
 use Prim.Native.Nat.{ℕ, zero, suc}
 use mathlib.Core.Bool.{cond}
 use mathlib.Core.List.{List, [], _∷_}

@@ -5,8 +5,10 @@ ghost use Rattle.layout.specs.Entries.{made, listed};
 ghost use Rattle.commit.specs.Finish.{finishEntries};
 ghost use Rattle.commit.specs.Settle.{settleEntries};
 ghost use Rattle.commit.specs.Reclaim.{reclaimEntries};
-ghost use Rattle.steps.specs.Apply.{beginOutcome, readOutcome, writeOutcome, finishOutcome, publishOutcome, settleOutcome, reclaimOutcome, abandonOutcome, givesOf};
-ghost use Rattle.steps.specs.Apply.{beginApplied, readApplied, writeApplied, finishApplied, publishApplied, settleApplied, reclaimApplied, abandonApplied};
+ghost use Rattle.steps.specs.Apply.{beginOutcome, readOutcome, writeOutcome, finishOutcome, publishOutcome, settleOutcome};
+ghost use Rattle.steps.specs.Apply.{reclaimOutcome, abandonOutcome, givesOf};
+ghost use Rattle.steps.specs.Apply.{beginApplied, readApplied, writeApplied, finishApplied, publishApplied, settleApplied};
+ghost use Rattle.steps.specs.Apply.{reclaimApplied, abandonApplied};
 ghost use Rattle.steps.specs.Apply.{appliedOf, appliedEntries};
 use codec::Step;
 use lines::Outcome;
@@ -171,8 +173,10 @@ fn apply_write(image: &[u64], desk: Desk, session: u64, rec: u64, words: [u64; 4
 
 fn apply_finish(image: &mut [u64], desk: Desk, trace: &mut [u64], session: u64) -> Applied
     ensures reply { λ r. ⌜ r ≡ finishApplied (now (image .entry)) desk (length (now (trace .entry))) session ⌝ }
-    ensures image { λ r. ⌜ now (image .exit) ≡ made (finishEntries (now (image .entry)) desk (length (now (trace .entry))) session) (now (image .entry)) ⌝ }
-    ensures trace { λ r. ⌜ now (trace .exit) ≡ listed (finishEntries (now (image .entry)) desk (length (now (trace .entry))) session) (now (trace .entry)) ⌝ }
+    ensures image { λ r. ⌜ now (image .exit)
+        ≡ made (finishEntries (now (image .entry)) desk (length (now (trace .entry))) session) (now (image .entry)) ⌝ }
+    ensures trace { λ r. ⌜ now (trace .exit)
+        ≡ listed (finishEntries (now (image .entry)) desk (length (now (trace .entry))) session) (now (trace .entry)) ⌝ }
 {
     let r = store::finish(image, desk, trace, session);
     let a = r.answer;
@@ -182,8 +186,10 @@ fn apply_finish(image: &mut [u64], desk: Desk, trace: &mut [u64], session: u64) 
 
 fn apply_settle(image: &mut [u64], desk: Desk, trace: &mut [u64], session: u64) -> Applied
     ensures reply { λ r. ⌜ r ≡ settleApplied (now (image .entry)) desk (length (now (trace .entry))) session ⌝ }
-    ensures image { λ r. ⌜ now (image .exit) ≡ made (settleEntries (now (image .entry)) desk (length (now (trace .entry))) session) (now (image .entry)) ⌝ }
-    ensures trace { λ r. ⌜ now (trace .exit) ≡ listed (settleEntries (now (image .entry)) desk (length (now (trace .entry))) session) (now (trace .entry)) ⌝ }
+    ensures image { λ r. ⌜ now (image .exit)
+        ≡ made (settleEntries (now (image .entry)) desk (length (now (trace .entry))) session) (now (image .entry)) ⌝ }
+    ensures trace { λ r. ⌜ now (trace .exit)
+        ≡ listed (settleEntries (now (image .entry)) desk (length (now (trace .entry))) session) (now (trace .entry)) ⌝ }
 {
     let r = store::settle(image, desk, trace, session);
     let a = r.answer;
@@ -193,8 +199,10 @@ fn apply_settle(image: &mut [u64], desk: Desk, trace: &mut [u64], session: u64) 
 
 fn apply_reclaim(image: &mut [u64], desk: Desk, trace: &mut [u64], session: u64) -> Applied
     ensures reply { λ r. ⌜ r ≡ reclaimApplied (now (image .entry)) desk (length (now (trace .entry))) session ⌝ }
-    ensures image { λ r. ⌜ now (image .exit) ≡ made (reclaimEntries (now (image .entry)) desk (length (now (trace .entry))) session) (now (image .entry)) ⌝ }
-    ensures trace { λ r. ⌜ now (trace .exit) ≡ listed (reclaimEntries (now (image .entry)) desk (length (now (trace .entry))) session) (now (trace .entry)) ⌝ }
+    ensures image { λ r. ⌜ now (image .exit)
+        ≡ made (reclaimEntries (now (image .entry)) desk (length (now (trace .entry))) session) (now (image .entry)) ⌝ }
+    ensures trace { λ r. ⌜ now (trace .exit)
+        ≡ listed (reclaimEntries (now (image .entry)) desk (length (now (trace .entry))) session) (now (trace .entry)) ⌝ }
 {
     let r = store::reclaim(image, desk, trace, session);
     let a = r.answer;
@@ -211,8 +219,10 @@ pub fn apply(
     words: [u64; 4],
 ) -> Applied
     ensures reply { λ r. ⌜ r ≡ appliedOf (now (image .entry)) desk (length (now (trace .entry))) step words ⌝ }
-    ensures image { λ r. ⌜ now (image .exit) ≡ made (appliedEntries (now (image .entry)) desk (length (now (trace .entry))) step) (now (image .entry)) ⌝ }
-    ensures trace { λ r. ⌜ now (trace .exit) ≡ listed (appliedEntries (now (image .entry)) desk (length (now (trace .entry))) step) (now (trace .entry)) ⌝ }
+    ensures image { λ r. ⌜ now (image .exit)
+        ≡ made (appliedEntries (now (image .entry)) desk (length (now (trace .entry))) step) (now (image .entry)) ⌝ }
+    ensures trace { λ r. ⌜ now (trace .exit)
+        ≡ listed (appliedEntries (now (image .entry)) desk (length (now (trace .entry))) step) (now (trace .entry)) ⌝ }
 {
     match step {
         Step::Lay(_, _) => gives(Outcome::Noted, 0, desk),

@@ -2,7 +2,7 @@
 ghost use mathlib.Core.Path.{_≡_};
 ghost use Rattle.steps.specs.Cut.{overlaid, entryMade, replayed, arriving, cutBack};
 
-// Copies an image to a slice of the same length or longer.
+// Copies an image over another slice from the first word on, as far as both reach.
 pub fn keep(image: &[u64], before: &mut [u64])
     ensures { λ r. ⌜ now (before .exit) ≡ overlaid (now (image .entry)) (now (before .entry)) ⌝ }
 {
@@ -13,7 +13,7 @@ pub fn keep(image: &[u64], before: &mut [u64])
     }
 }
 
-// Makes one entry. The index of a fence is past the end of every image.
+// Makes one entry. A fence, and any index past the image's end, changes nothing.
 fn arrive(image: &mut [u64], index: u64, word: u64)
     ensures { λ r. ⌜ now (image .exit) ≡ entryMade index word (now (image .entry)) ⌝ }
 {
@@ -23,7 +23,7 @@ fn arrive(image: &mut [u64], index: u64, word: u64)
     }
 }
 
-// Makes the first `count` entries of a trace.
+// Makes the first `count` entries of a trace, as far as it has two words for each.
 fn replay(image: &mut [u64], trace: &[u64], count: u64)
     ensures { λ r. ⌜ now (image .exit) ≡ replayed count (now (trace .entry)) (now (image .entry)) ⌝ }
 {
@@ -44,7 +44,7 @@ fn arriving_of(entries: u64, k: u64) -> u64
     if k < entries { k } else { entries }
 }
 
-// Brings the image back to what was kept before a step, with the first k of the step's entries made.
+// Brings the image back to what was kept before a step, with the first k of the step's entries made, all if it has fewer.
 pub fn cut_back(image: &mut [u64], before: &[u64], trace: &[u64], entries: u64, k: u64)
     ensures { λ r. ⌜ now (image .exit) ≡ cutBack (now (image .entry)) (now (before .entry)) (now (trace .entry)) entries k ⌝ }
 {

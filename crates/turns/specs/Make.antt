@@ -12,6 +12,7 @@ use Rattle.layout.specs.declared.laying.LayAnswer.{LayAnswer}
 use Rattle.layout.specs.declared.laying.LayAnswer.the-variants.{Refused as LayRefused, Laid}
 use Rattle.recovery.specs.declared.recovering.RecoverAnswer.{RecoverAnswer}
 use Rattle.recovery.specs.declared.recovering.RecoverAnswer.the-variants.{Refused as RecoverRefused, Unsound, Clean, Replayed}
+use Rattle.steps.specs.Cut.{overlaid}
 use Rattle.lines.specs.Put.{Put}
 use Rattle.lines.specs.Result.{replayedLine, openLine}
 use Rattle.codec.specs.declared.step.Step.{Step}
@@ -45,6 +46,10 @@ isCutB s step = s .cutting && storesB step
 -- of a step that is cut only the first k entries arrive, all if it has fewer
 abbrev pub arrivesOf : State → Step → List Entry → List Entry
 arrivesOf s step es = cond (isCutB s step) (take (s .cut) es) es
+
+-- the image of before a step that is cut is kept
+abbrev pub keptOf : State → Step → List ℕ → List ℕ → List ℕ
+keptOf s step img before = cond (isCutB s step) (overlaid img before) before
 
 -- its result is "cut", or its usual result if it has no entries (a refused step has none)
 abbrev pub shownOf : Outcome → Bool → ℕ → Outcome

@@ -1,5 +1,5 @@
-// A walk's state, and what each kind of turn does on the store: a step made, whole or cut, the image laid, a call of recover; and the lines of these.
-// Everything here is for the crate above: the functions ask for places within the buffers and room for a line.
+// A walk's state, and what each kind of turn does on the store: a step made, whole or cut, the image laid, a call of recover; and the lines
+// of these. Everything here is for the crate above: the functions ask for places within the buffers and room for a line.
 mod making;
 mod state;
 

@@ -2,14 +2,15 @@
 ghost use mathlib.Core.Path.{_≡_};
 ghost use Prim.Native.Nat.{_+_, _≤_};
 ghost use lib.ListN.{length, take};
-ghost use Rattle.layout.specs.Entries.{made};
+ghost use Rattle.layout.specs.Entries.{made, listed};
 ghost use Rattle.recovery.specs.Recover.{recoverReply, recoverEntries};
 ghost use Rattle.steps.specs.Apply.{appliedOf, appliedEntries};
+ghost use Rattle.steps.specs.Cut.{overlaid};
 ghost use Rattle.lines.specs.Result.{stepLine, badLine, replayedLine, openLine};
 ghost use Rattle.codec.specs.Steps.{noWords};
 ghost use Rattle.codec.specs.declared.step.Step.the-variants.{Lay};
 ghost use Rattle.turns.specs.Bounds.{Ready, Follows};
-ghost use Rattle.turns.specs.Make.{imageSize, storesB, isCutB, arrivesOf, shownOf, notedOf, toldOf, badOf, replayedOf, recoveredOf};
+ghost use Rattle.turns.specs.Make.{imageSize, storesB, isCutB, arrivesOf, keptOf, shownOf, notedOf, toldOf, badOf, replayedOf, recoveredOf};
 ghost use Rattle.turns.specs.Make.{resumedLine, resumedOf, laying, layOutcome, laidOf, memoryOf, Puts};
 use crate::state::State;
 use codec::Step;
@@ -51,7 +52,10 @@ pub fn bad(output: &mut [u8], mut s: State) -> State
 pub fn lay(image: &mut [u64], output: &mut [u8], mut s: State, n: u64, m: u64) -> State
     requires { ⌜ Ready s (length (now output)) (length (now image)) ⌝ }
     ensures { λ r. ⌜ Follows s r (length (now (output .entry))) (length (now (image .entry))) ⌝ }
-    ensures { λ r. ⌜ Puts (stepLine (s .number) (Lay n m) (layOutcome (laying (now (image .entry)) n m)) noWords) s (laidOf s (imageSize (length (now (image .entry))) n m) (laying (now (image .entry)) n m)) (now (output .entry)) (now (output .exit)) r ⌝ }
+    ensures { λ r.
+        ⌜ Puts (stepLine (s .number) (Lay n m) (layOutcome (laying (now (image .entry)) n m)) noWords) s
+        (laidOf s (imageSize (length (now (image .entry))) n m) (laying (now (image .entry)) n m)) (now (output .entry))
+        (now (output .exit)) r ⌝ }
     ensures { λ r. ⌜ now (image .exit) ≡ memoryOf (now (image .entry)) n m ⌝ }
 {
     let size = image_size(image.len(), n, m);
@@ -111,7 +115,11 @@ fn make_cut(
 ) -> Applied
     requires { ⌜ length (now image) ≤ length (now before) ⌝ }
     ensures reply { λ r. ⌜ r ≡ appliedOf (now (image .entry)) desk (length (now (trace .entry))) step noWords ⌝ }
-    ensures image { λ r. ⌜ now (image .exit) ≡ made (take k (appliedEntries (now (image .entry)) desk (length (now (trace .entry))) step)) (now (image .entry)) ⌝ }
+    ensures image { λ r. ⌜ now (image .exit)
+        ≡ made (take k (appliedEntries (now (image .entry)) desk (length (now (trace .entry))) step)) (now (image .entry)) ⌝ }
+    ensures trace { λ r. ⌜ now (trace .exit)
+        ≡ listed (appliedEntries (now (image .entry)) desk (length (now (trace .entry))) step) (now (trace .entry)) ⌝ }
+    ensures before { λ r. ⌜ now (before .exit) ≡ overlaid (now (image .entry)) (now (before .entry)) ⌝ }
 {
     steps::keep(image, before);
     let a = steps::apply(image, desk, trace, step, [0; 4]);
@@ -131,7 +139,11 @@ pub fn make(
 ) -> Applied
     requires { ⌜ length (now image) ≤ length (now before) ⌝ }
     ensures reply { λ r. ⌜ r ≡ appliedOf (now (image .entry)) desk (length (now (trace .entry))) step words ⌝ }
-    ensures image { λ r. ⌜ now (image .exit) ≡ made (arrivesOf s step (appliedEntries (now (image .entry)) desk (length (now (trace .entry))) step)) (now (image .entry)) ⌝ }
+    ensures image { λ r. ⌜ now (image .exit)
+        ≡ made (arrivesOf s step (appliedEntries (now (image .entry)) desk (length (now (trace .entry))) step)) (now (image .entry)) ⌝ }
+    ensures trace { λ r. ⌜ now (trace .exit)
+        ≡ listed (appliedEntries (now (image .entry)) desk (length (now (trace .entry))) step) (now (trace .entry)) ⌝ }
+    ensures before { λ r. ⌜ now (before .exit) ≡ keptOf s step (now (image .entry)) (now (before .entry)) ⌝ }
 {
     if is_cut(s, step) {
         return make_cut(image, before, trace, desk, step, s.cut);
@@ -184,7 +196,9 @@ pub fn tell(
 ) -> State
     requires { ⌜ s .put + 256 ≤ length (now output) ⌝ }
     ensures { λ r. ⌜ Follows s r (length (now (output .entry))) (s .size) ⌝ }
-    ensures { λ r. ⌜ Puts (stepLine (s .number) step (shownOf outcome (isCutB s step) entries) words) s (toldOf s step) (now (output .entry)) (now (output .exit)) r ⌝ }
+    ensures { λ r.
+        ⌜ Puts (stepLine (s .number) step (shownOf outcome (isCutB s step) entries) words) s (toldOf s step) (now (output .entry))
+        (now (output .exit)) r ⌝ }
 {
     let cut = is_cut(s, step);
     let mut t = noted(s, step);
@@ -232,8 +246,12 @@ fn recovered(output: &mut [u8], mut s: State) -> State
 pub fn resume(image: &mut [u64], trace: &mut [u64], output: &mut [u8], s: State) -> State
     requires { ⌜ s .put + 256 ≤ length (now output) ⌝ }
     ensures { λ r. ⌜ Follows s r (length (now (output .entry))) (s .size) ⌝ }
-    ensures { λ r. ⌜ Puts (resumedLine (s .number) (recoverReply (now (image .entry)) (length (now (trace .entry))) .answer)) s (resumedOf s (recoverReply (now (image .entry)) (length (now (trace .entry))) .answer)) (now (output .entry)) (now (output .exit)) r ⌝ }
+    ensures { λ r.
+        ⌜ Puts (resumedLine (s .number) (recoverReply (now (image .entry)) (length (now (trace .entry))) .answer)) s
+        (resumedOf s (recoverReply (now (image .entry)) (length (now (trace .entry))) .answer)) (now (output .entry)) (now (output .exit))
+        r ⌝ }
     ensures { λ r. ⌜ now (image .exit) ≡ made (recoverEntries (now (image .entry)) (length (now (trace .entry)))) (now (image .entry)) ⌝ }
+    ensures { λ r. ⌜ now (trace .exit) ≡ listed (recoverEntries (now (image .entry)) (length (now (trace .entry)))) (now (trace .entry)) ⌝ }
 {
     let r = store::recover(image, trace);
     let answer = r.answer;

@@ -6,8 +6,8 @@ ghost use Rattle.turns.specs.Bounds.{Follows};
 ghost use Rattle.turns.specs.State.{startOf, countedOf, writtenOf, filledOf, stoppedOf, openedOf};
 
 // The input held is input[at..have], the lines not yet written are output[..put], the image is the first `size` words (0: not laid yet).
-// `cutting`: of the next step that stores, `cut` entries arrive. `lost`: the desk is lost, and recovery is to come. `closed`: the image is to be
-// opened. `ended`: no more input comes.
+// `cutting`: of the next step that stores, `cut` entries arrive. `lost`: the desk is lost, and recovery is to come. `closed`: the image is
+// to be opened. `ended`: no more input comes.
 pub struct State {
     pub at: usize,
     pub have: usize,
@@ -44,7 +44,8 @@ pub fn start(have: usize, ended: bool) -> State
 // Behind a step of this many bytes, and counting it.
 pub fn counted(mut s: State, bytes: usize) -> State
     requires { ⌜ (s .at + bytes ≤ s .have) × (s .number + 1 < 2 ^ 64) ⌝ }
-    ensures { λ r. ⌜ (r .at ≡ s .at + bytes) × (r .have ≡ s .have) × (r .put ≡ s .put) × (r .size ≡ s .size) × (r .number ≡ s .number + 1) ⌝ }
+    ensures { λ r. ⌜ (r .at ≡ s .at + bytes) × (r .have ≡ s .have) × (r .put ≡ s .put) × (r .size ≡ s .size) × (r .number
+        ≡ s .number + 1) ⌝ }
     ensures { λ r. ⌜ r ≡ countedOf s bytes ⌝ }
 {
     s.at = s.at + bytes;
@@ -65,7 +66,8 @@ pub fn written(mut s: State, done: bool) -> State
 // The bytes held stand first, with those that came behind them; the input has ended where none came.
 pub fn filled(mut s: State, came: usize) -> State
     requires { ⌜ (s .at ≤ s .have) × (s .have - s .at + came < 2 ^ 64) ⌝ }
-    ensures { λ r. ⌜ (r .at ≡ 0) × (r .have ≡ s .have - s .at + came) × (r .put ≡ s .put) × (r .size ≡ s .size) × (r .number ≡ s .number) ⌝ }
+    ensures { λ r. ⌜ (r .at ≡ 0) × (r .have ≡ s .have - s .at + came) × (r .put ≡ s .put) × (r .size ≡ s .size) × (r .number
+        ≡ s .number) ⌝ }
     ensures { λ r. ⌜ r ≡ filledOf s came ⌝ }
 {
     let left = s.have - s.at;

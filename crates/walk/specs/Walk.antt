@@ -1,5 +1,5 @@
--- A walk, turn by turn (document 01, "The program"): what one turn leaves of the input, the image, the lines, the desk and the state, and what a
--- whole walk leaves.
+-- A walk, turn by turn (document 01, "The program"): what one turn leaves of the input, the image, the lines, the desk and the state, and
+-- what a whole walk leaves.
 use Prim.Native.Nat.{ℕ, zero, suc, _+_, _-_}
 use mathlib.Core.Bool.{Bool, true, false, not, cond}
 use mathlib.Core.List.{List, _++_}
@@ -20,14 +20,16 @@ use Rattle.lines.specs.Result.{stepLine, badLine}
 use Rattle.steps.specs.Apply.{appliedOf, appliedEntries}
 use Rattle.steps.specs.declared.applying.Applied.{Applied}
 use Rattle.turns.specs.State.{writtenOf, filledOf, stoppedOf, openedOf}
-use Rattle.turns.specs.Make.{imageSize, arrivesOf, isCutB, shownOf, toldOf, badOf, resumedLine, resumedOf, laying, layOutcome, laidOf, memoryOf}
+use Rattle.turns.specs.Make.{imageSize, arrivesOf, isCutB, shownOf, toldOf, badOf, resumedLine, resumedOf, laying, layOutcome, laidOf}
+use Rattle.turns.specs.Make.{memoryOf}
 use Rattle.walk.specs.Turn.{turnOf}
 use Rattle.turns.specs.declared.state.State.{State}
 use Rattle.walk.specs.declared.turn.Turn.{Turn}
 use Rattle.walk.specs.declared.turn.Turn.the-variants.{Open, Recover, Fill, Call, Lay, Bad, End}
 use Rattle.walk.specs.declared.turn.Taken.{Taken}
 
--- what the operating system answered in a turn: the input buffer as a read left it and the number of bytes that came, and whether a write took all
+-- what the operating system answered in a turn: the input buffer as a read left it and the number of bytes that came, and whether a write
+-- took all
 pub record Heard : Type 0 where
   pub input : List ℕ
   pub came : ℕ
@@ -82,7 +84,8 @@ aside len h End w = inState w (stoppedOf (w .state))
 -- a step on the opened store: of its entries those arrive that a cut lets arrive, and its line is told
 abbrev pub calling : Step → Applied → Work → Work → Work
 calling step a w v =
-    printed v (stepLine (w .state .number) step (shownOf (a .outcome) (isCutB (w .state) step) (a .entries)) (a .words)) (toldOf (w .state) step)
+    printed v (stepLine (w .state .number) step (shownOf (a .outcome) (isCutB (w .state) step) (a .entries)) (a .words))
+    (toldOf (w .state) step)
 
 abbrev pub called : ℕ → Desk → Step → List ℕ → Work → Work
 called len d step words w =

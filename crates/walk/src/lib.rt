@@ -1,5 +1,5 @@
-// A walk through a step stream. `run` is public for the programs above: it asks for a `before` at least as long as the image, and that the bytes said
-// to be held fit the input buffer, and that the output has room for a line.
+// A walk through a step stream. `run` is public for the programs above: it asks for a `before` at least as long as the image, that the bytes
+// said to be held fit the input buffer, and for an output with room for a line.
 ghost use Prim.Native.Nat.{_≤_};
 ghost use lib.ListN.{length};
 ghost use Rattle.recovery.specs.Open.{openReply};
@@ -15,8 +15,8 @@ use turns::start;
 // The most turns of a walk.
 const TURNS: u64 = 18446744073709551614;
 
-// Walks through a stream: its first `have` bytes are in the input buffer, and unless it has ended, more come from standard input. The lines go to
-// standard output.
+// Walks through a stream: its first `have` bytes are in the input buffer, and unless it has ended, more come from standard input. The lines
+// go to standard output.
 pub fn run(
     input: &mut [u8],
     image: &mut [u64],
@@ -27,7 +27,10 @@ pub fn run(
     ended: bool,
 )
     requires { ⌜ (256 ≤ length (now output)) × (have ≤ length (now input)) × (length (now image) ≤ length (now before)) ⌝ }
-    ensures { λ r. ⌜ Leaves (length (now (trace .entry))) (worldOf (now (input .entry)) (now (image .entry)) (now (output .entry)) (openReply (now (image .entry)) .desk) (startOf have ended)) (now (input .exit)) (now (image .exit)) (now (output .exit)) ⌝ }
+    ensures { λ r.
+        ⌜ Leaves (length (now (trace .entry)))
+        (worldOf (now (input .entry)) (now (image .entry)) (now (output .entry)) (openReply (now (image .entry)) .desk)
+        (startOf have ended)) (now (input .exit)) (now (image .exit)) (now (output .exit)) ⌝ }
 {
     let mut s = start(have, ended);
     let none = store::open(image);

@@ -9,7 +9,8 @@ use codec::Step;
 use turns::State;
 use turns::counted;
 
-// Opens the image, makes a call of recover, reads, makes a step on the opened store, lays the image, or stops, with the line "bad" or without.
+// Opens the image, makes a call of recover, reads, makes a step on the opened store, lays the image, or stops, with the line "bad" or
+// without.
 pub enum Turn {
     Open,
     Recover,

@@ -49,8 +49,12 @@ fn call_turn(
 ) -> Turned
     requires { ⌜ (s .size ≤ length (now image)) × (length (now image) ≤ length (now before)) × (s .put + 256 ≤ length (now output)) ⌝ }
     ensures { λ r. ⌜ Follows s (r .state) (length (now (output .entry))) (s .size) ⌝ }
-    ensures { λ r. ⌜ record { memory = now (image .exit); output = now (output .exit); state = r .state } ≡ called (length (now (trace .entry))) desk step words (record { memory = now (image .entry); output = now (output .entry); state = s }) ⌝ }
-    ensures { λ r. ⌜ r .desk ≡ deskAfter (length (now (trace .entry))) (Call step) words desk (record { memory = now (image .entry); output = now (output .entry); state = s }) ⌝ }
+    ensures { λ r. ⌜ record { memory = now (image .exit); output = now (output .exit); state = r .state }
+        ≡ called (length (now (trace .entry))) desk step words
+        (record { memory = now (image .entry); output = now (output .entry); state = s }) ⌝ }
+    ensures { λ r. ⌜ r .desk
+        ≡ deskAfter (length (now (trace .entry))) (Call step) words desk
+        (record { memory = now (image .entry); output = now (output .entry); state = s }) ⌝ }
 {
     let size = s.size;
     let a = make(&mut image[..size], before, trace, desk, step, words, s);
@@ -70,8 +74,12 @@ fn other_turn(
     turn: Turn,
 ) -> State
     requires { ⌜ Within s (length (now input)) (length (now output)) (length (now image)) × (s .put + 256 ≤ length (now output)) ⌝ }
-    ensures { λ r. ⌜ Within r (length (now (input .entry))) (length (now (output .entry))) (length (now (image .entry))) × (r .number ≡ s .number) ⌝ }
-    ensures { λ r. ⌜ OtherTurn (length (now (trace .entry))) turn (now (input .entry)) (record { memory = now (image .entry); output = now (output .entry); state = s }) (now (input .exit)) (record { memory = now (image .exit); output = now (output .exit); state = r }) ⌝ }
+    ensures { λ r. ⌜ Within r (length (now (input .entry))) (length (now (output .entry))) (length (now (image .entry)))
+        × (r .number ≡ s .number) ⌝ }
+    ensures { λ r.
+        ⌜ OtherTurn (length (now (trace .entry))) turn (now (input .entry))
+        (record { memory = now (image .entry); output = now (output .entry); state = s }) (now (input .exit))
+        (record { memory = now (image .exit); output = now (output .exit); state = r }) ⌝ }
 {
     match turn {
         Turn::Fill => {
@@ -102,8 +110,11 @@ pub fn take_turn(
 ) -> Turned
     requires { ⌜ Within s (length (now input)) (length (now output)) (length (now image)) ⌝ }
     requires { ⌜ (length (now image) ≤ length (now before)) × (s .number + 1 < 2 ^ 64) ⌝ }
-    ensures { λ r. ⌜ Within (r .state) (length (now (input .entry))) (length (now (output .entry))) (length (now (image .entry))) × (r .state .number ≤ s .number + 1) ⌝ }
-    ensures { λ r. ⌜ OneTurn (length (now (trace .entry))) (worldOf (now (input .entry)) (now (image .entry)) (now (output .entry)) desk s) (worldOf (now (input .exit)) (now (image .exit)) (now (output .exit)) (r .desk) (r .state)) ⌝ }
+    ensures { λ r. ⌜ Within (r .state) (length (now (input .entry))) (length (now (output .entry))) (length (now (image .entry)))
+        × (r .state .number ≤ s .number + 1) ⌝ }
+    ensures { λ r.
+        ⌜ OneTurn (length (now (trace .entry))) (worldOf (now (input .entry)) (now (image .entry)) (now (output .entry)) desk s)
+        (worldOf (now (input .exit)) (now (image .exit)) (now (output .exit)) (r .desk) (r .state)) ⌝ }
 {
     if output.len() - s.put < 256 {
         let done = feed::write_out(output, s.put);

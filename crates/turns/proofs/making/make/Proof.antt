@@ -1,5 +1,5 @@
 use mathlib.Core.Bool.{true, false}
-use mathlib.Core.Path.{_≡_, sym, _∙_}
+use mathlib.Core.Path.{_≡_, refl, sym, _∙_}
 use lib.ListN.{length}
 use Rattle.codec.specs.Steps.{noWords}
 use Rattle.turns.specs.Make.{isCutB}
@@ -28,7 +28,7 @@ returns c =
     let a = (c .before .before .before .before .before .before .before .before .before .before .before .before .before .before .before) .args in
     let z : isCutB (a .s) (a .step) ≡ true = sym ((c .before .before .before .before .before .before .before .before .before .before .before) .is-cut .ensures) ∙ (c .before .before .before .before .before .before .before .before .before .before) .if1 .taken in
     let w = (c .before .before .before .before .before .before) .make-cut .ensures in
-    (cut-words (a .s) (a .image .now) (a .desk) (length (a .trace .now)) (a .step) noWords (a .words) z (w .0), rw z (w .1))
+    (cut-words (a .s) (a .image .now) (a .desk) (length (a .trace .now)) (a .step) noWords (a .words) z (w .0), (rw z (w .1 .0), (w .1 .1 .0, rw z (w .1 .1 .1))))
 
 apply-requires : tie.Need-apply-requires
 apply-requires c κs = search needs
@@ -44,7 +44,7 @@ returns-2 c =
     let a = (c .before .before .before .before .before .before .before .before .before .before .before .before) .args in
     let z : isCutB (a .s) (a .step) ≡ false = sym ((c .before .before .before .before .before .before .before .before) .is-cut .ensures) ∙ (c .before .before .before .before .before .before .before) .if1 .left in
     let w = (c .before .before .before .before) .apply .ensures in
-    (w .0, rw z (w .1 .0))
+    (w .0, (rw z (w .1 .0), (w .1 .1, rw z refl)))
 
 pub make-spec : {M : Type 1} → statement M
 make-spec =

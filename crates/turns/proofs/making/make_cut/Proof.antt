@@ -25,7 +25,7 @@ returns : tie.Need-returns
 returns c =
     let a = (c .before .before .before .before .before .before .before .before .before .before .before .before .before .before .before .before .before .before .before .before .before) .args in
     let w = (c .before .before .before .before .before .before .before .before .before .before) .apply .ensures in
-    (w .0, cut-after (a .k) (a .image .now) (a .before .now) (a .trace .now) (a .desk) (a .step) (w .0) (w .1 .0) ((c .before .before .before .before .before .before .before .before .before .before .before .before .before .before .before) .keep .ensures) (w .1 .1) ((c .before .before) .cut-back .ensures) ((c .before .before .before .before .before .before .before .before .before .before .before .before .before .before .before .before .before .before .before .before .before) .pre) (search needs))
+    (w .0, (cut-after (a .k) (a .image .now) (a .before .now) (a .trace .now) (a .desk) (a .step) (w .0) (w .1 .0) ((c .before .before .before .before .before .before .before .before .before .before .before .before .before .before .before) .keep .ensures) (w .1 .1) ((c .before .before) .cut-back .ensures) ((c .before .before .before .before .before .before .before .before .before .before .before .before .before .before .before .before .before .before .before .before .before) .pre) (search needs), (w .1 .1, (c .before .before .before .before .before .before .before .before .before .before .before .before .before .before .before) .keep .ensures)))
 
 pub make-cut-spec : {M : Type 1} → statement M
 make-cut-spec =

@@ -42,7 +42,7 @@ returns c =
     let t = (c .before .before .before) .tell .ensures in
     rw (c .gives .ensures) (
       t .0,
-      (called-by (length (a .trace .now)) (a .desk) (a .step) (a .words) (record { memory = a .image .now; output = a .output .now; state = a .s }) (m .0) (m .1) (t .1), ap (λ (x : Applied). x .desk) (m .0)),
+      (called-by (length (a .trace .now)) (a .desk) (a .step) (a .words) (record { memory = a .image .now; output = a .output .now; state = a .s }) (m .0) (m .1 .0) (t .1), ap (λ (x : Applied). x .desk) (m .0)),
     )
 
 pub call-turn-spec : {M : Type 1} → statement M

@@ -74,7 +74,7 @@ returns-2 : tie.Need-returns-2
 returns-2 c =
     let a = (c .before .before .before .before .before .before .before .before .before .before .before .before .before .before .before .before) .args in
     let w = (c .before .before .before .before .before .before) .resume .ensures in
-    (search needs, rw ((c .before .before .before .before .before .before .before .before .before .before) .enum-told2 .given .1) (nothingHeard (a .input .now), refl, refl, recovered-by (length (a .trace .now)) (record { memory = a .image .now; output = a .output .now; state = a .s }) (w .1 .0) (w .1 .1)))
+    (search needs, rw ((c .before .before .before .before .before .before .before .before .before .before) .enum-told2 .given .1) (nothingHeard (a .input .now), refl, refl, recovered-by (length (a .trace .now)) (record { memory = a .image .now; output = a .output .now; state = a .s }) (w .1 .0) (w .1 .1 .0)))
 
 same-length-5 : tie.Need-same-length-5
 same-length-5 c = search needs
