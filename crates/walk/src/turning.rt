@@ -3,12 +3,9 @@ ghost use mathlib.Core.Path.{_≡_};
 ghost use Prim.Native.Nat.{_+_, _<_, _≤_, _^_};
 ghost use lib.ListN.{length};
 ghost use Rattle.walk.specs.Bounds.{Within};
-ghost use Rattle.turns.specs.Bounds.{Follows};
-ghost use Rattle.walk.specs.Walk.{called, deskAfter, OtherTurn, worldOf, OneTurn};
-ghost use Rattle.walk.specs.declared.turn.Turn.the-variants.{Call};
+ghost use Rattle.walk.specs.Walk.{OtherTurn, worldOf, OneTurn};
 use crate::turn::Turn;
 use crate::turn::next_turn;
-use codec::Step;
 use store::Desk;
 use turns::State;
 use turns::bad;
@@ -34,34 +31,6 @@ fn gives(desk: Desk, state: State) -> Turned
         desk: desk,
         state: state,
     }
-}
-
-// A step on the opened store, and its line.
-fn call_turn(
-    image: &mut [u64],
-    before: &mut [u64],
-    trace: &mut [u64],
-    output: &mut [u8],
-    desk: Desk,
-    s: State,
-    step: Step,
-    words: [u64; 4],
-) -> Turned
-    requires { ⌜ (s .size ≤ length (now image)) × (length (now image) ≤ length (now before)) × (s .put + 256 ≤ length (now output)) ⌝ }
-    ensures { λ r. ⌜ Follows s (r .state) (length (now (output .entry))) (s .size) ⌝ }
-    ensures { λ r. ⌜ record { memory = now (image .exit); output = now (output .exit); state = r .state }
-        ≡ called (length (now (trace .entry))) desk step words
-        (record { memory = now (image .entry); output = now (output .entry); state = s }) ⌝ }
-    ensures { λ r. ⌜ r .desk
-        ≡ deskAfter (length (now (trace .entry))) (Call step) words desk
-        (record { memory = now (image .entry); output = now (output .entry); state = s }) ⌝ }
-{
-    let size = s.size;
-    let a = make(&mut image[..size], before, trace, desk, step, words, s);
-    let d = a.desk;
-    let outcome = a.outcome;
-    let shown = a.words;
-    gives(d, tell(output, s, step, outcome, shown, a.entries))
 }
 
 // A turn that leaves the desk as it is.
@@ -131,8 +100,13 @@ pub fn take_turn(
             gives(d, opened(next))
         }
         Turn::Call(step) => {
+            let size = next.size;
             let words = t.words;
-            call_turn(image, before, trace, output, desk, next, step, words)
+            let a = make(&mut image[..size], before, trace, desk, step, words, next);
+            let d = a.desk;
+            let outcome = a.outcome;
+            let shown = a.words;
+            gives(d, tell(output, next, step, outcome, shown, a.entries))
         }
         _ => {
             let after = other_turn(input, image, trace, output, next, turn);

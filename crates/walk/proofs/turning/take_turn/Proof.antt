@@ -4,7 +4,9 @@ use lib.ListN.{length}
 use lib.Seq.{length-take-le}
 use borrow.Author.Tests.{lt-ltb, le-ltb}
 use Rattle.recovery.specs.declared.opening.OpenReply.{OpenReply}
-use Rattle.walk.specs.Walk.{worldOf}
+use Rattle.steps.specs.declared.applying.Applied.{Applied}
+use Rattle.walk.specs.Walk.{worldOf, inState}
+use Rattle.walk.proofs.WalkLaws.{called-by}
 use Rattle.walk.proofs.Turns.{written-within, turned}
 use Rattle.walk.proofs.OneTurnLaws.{written-turn, opened-turn, called-turn, other-turn}
 use borrow.Author.Needs.{needs}
@@ -57,14 +59,28 @@ gives-requires-2 c κs = search needs
 enum-known-turn : tie.Need-enum-known-turn
 enum-known-turn c = search needs
 
-call-turn-requires : tie.Need-call-turn-requires
-call-turn-requires c κs = search needs
+slice-relend-prefix-make : tie.Need-slice-relend-prefix-make
+slice-relend-prefix-make c = search needs
+
+slice-aggregate-make : tie.Need-slice-aggregate-make
+slice-aggregate-make c = sym (length-take-le ((c .before .before .before .before .before .before) .next-turn .result .state .size) ((c .before .before .before .before .before .before .before .before .before .before .before .before .before .before .before) .args .image .now) (search needs))
+
+make-requires : tie.Need-make-requires
+make-requires c κs =
+    let e = length-take-le ((c .before .before .before .before .before .before .before .before) .next-turn .result .state .size) ((c .before .before .before .before .before .before .before .before .before .before .before .before .before .before .before .before .before) .args .image .now) (search needs) in
+    omega (arith, e, (c .before .before .before .before .before .before .before .before) .next-turn .ensures .0 .sized, (c .before .before .before .before .before .before .before .before .before .before .before .before .before .before .before .before .before) .pre .0 .sized, (c .before .before .before .before .before .before .before .before .before .before .before .before .before .before .before .before .before) .pre .1)
+
+tell-requires : tie.Need-tell-requires
+tell-requires c κs = search needs
+
+gives-requires-3 : tie.Need-gives-requires-3
+gives-requires-3 c κs = search needs
 
 other-turn-requires : tie.Need-other-turn-requires
 other-turn-requires c κs = search needs
 
-gives-requires-3 : tie.Need-gives-requires-3
-gives-requires-3 c κs = search needs
+gives-requires-4 : tie.Need-gives-requires-4
+gives-requires-4 c κs = search needs
 
 same-length-2 : tie.Need-same-length-2
 same-length-2 c = search needs
@@ -99,11 +115,16 @@ same-length-8 c = search needs
 
 returns-3 : tie.Need-returns-3
 returns-3 c =
-    let a = (c .before .before .before .before .before .before .before .before .before .before .before .before .before .before .before .before .before .before .before .before .before .before .before .before .before .before .before) .args in
-    let n = (c .before .before .before .before .before .before .before .before .before .before .before .before .before .before .before .before .before .before) .next-turn .ensures in
-    let e = (c .before .before .before .before .before .before .before .before) .call-turn .ensures in (
-      (turned ((c .before .before .before .before .before .before .before .before .before .before .before .before .before .before .before .before .before .before .before .before .before .before .before .before .before .before .before) .pre .0) (n .0) (e .0) (search needs), omega (arith, n .0 .numbered, e .0 .numbered)),
-      called-turn (length (a .trace .now)) (worldOf (a .input .now) (a .image .now) (a .output .now) (a .desk) (a .s)) (le-ltb _ _ ((c .before .before .before .before .before .before .before .before .before .before .before .before .before .before .before .before .before .before .before .before) .if1 .left)) (n .1) _ ((c .before .before .before .before .before .before .before .before .before .before .before .before .before .before .before) .turn .given .1) (e .1 .0) (e .1 .1),
+    let a = (c .before .before .before .before .before .before .before .before .before .before .before .before .before .before .before .before .before .before .before .before .before .before .before .before .before .before .before .before .before .before .before) .args in
+    let n = (c .before .before .before .before .before .before .before .before .before .before .before .before .before .before .before .before .before .before .before .before .before .before) .next-turn .ensures in
+    let m = (c .before .before .before .before .before .before .before .before .before .before .before .before .before) .make .ensures in
+    let t = (c .before .before .before) .tell .ensures in
+    let w = worldOf (a .input .now) (a .image .now) (a .output .now) (a .desk) (a .s) in
+    rw (c .gives3 .ensures) (
+      (turned ((c .before .before .before .before .before .before .before .before .before .before .before .before .before .before .before .before .before .before .before .before .before .before .before .before .before .before .before .before .before .before .before) .pre .0) (n .0) (t .0) (search needs), omega (arith, n .0 .numbered, t .0 .numbered)),
+      called-turn (length (a .trace .now)) w (le-ltb _ _ ((c .before .before .before .before .before .before .before .before .before .before .before .before .before .before .before .before .before .before .before .before .before .before .before .before) .if1 .left)) (n .1) _ ((c .before .before .before .before .before .before .before .before .before .before .before .before .before .before .before .before .before .before .before) .turn .given .1)
+          (called-by (length (a .trace .now)) (a .desk) _ _ (inState (w .work) ((c .before .before .before .before .before .before .before .before .before .before .before .before .before .before .before .before .before .before .before .before .before .before) .next-turn .result .state)) (m .0) (m .1 .0) (t .1))
+          (ap (λ (x : Applied). x .desk) (m .0)),
     )
 
 same-length-9 : tie.Need-same-length-9
@@ -123,7 +144,7 @@ returns-4 c =
     let a = (c .before .before .before .before .before .before .before .before .before .before .before .before .before .before .before .before .before .before .before .before .before .before .before .before .before) .args in
     let n = (c .before .before .before .before .before .before .before .before .before .before .before .before .before .before .before .before) .next-turn .ensures in
     let e = (c .before .before .before .before .before .before .before .before .before) .other-turn .ensures in
-    rw (c .gives3 .ensures) (
+    rw (c .gives4 .ensures) (
       (e .0 .0, omega (arith, n .0 .numbered, e .0 .1)),
       other-turn (length (a .trace .now)) (worldOf (a .input .now) (a .image .now) (a .output .now) (a .desk) (a .s)) (le-ltb _ _ ((c .before .before .before .before .before .before .before .before .before .before .before .before .before .before .before .before .before .before) .if1 .left)) (n .1) ((c .before .before .before .before .before .before .before .before .before .before .before .before .before .before) .match .keys3) (e .1),
     )
@@ -146,9 +167,13 @@ take-turn-spec =
     opened-requires
     gives-requires-2
     enum-known-turn
-    call-turn-requires
-    other-turn-requires
+    slice-relend-prefix-make
+    slice-aggregate-make
+    make-requires
+    tell-requires
     gives-requires-3
+    other-turn-requires
+    gives-requires-4
     same-length-2
     same-length-3
     returns-2
