@@ -33,8 +33,8 @@ stepOf (suc (suc (suc (suc (suc (suc (suc (suc zero)))))))) a b = Abandon a
 stepOf (suc (suc (suc (suc (suc (suc (suc (suc (suc k))))))))) a b = Cut a
 
 -- the four words of a write: behind kind, session and record, eight bytes each, lowest byte first
-unfoldable pub wordsOf : List ℕ → List ℕ
-wordsOf s = little 8 (drop 3 s) ∷ little 8 (drop 11 s) ∷ little 8 (drop 19 s) ∷ little 8 (drop 27 s) ∷ []
+unfoldable pub stepWords : List ℕ → List ℕ
+stepWords s = little 8 (drop 3 s) ∷ little 8 (drop 11 s) ∷ little 8 (drop 19 s) ∷ little 8 (drop 27 s) ∷ []
 
 -- the words beside a step that is no write
 abbrev pub noWords : List ℕ
@@ -50,7 +50,7 @@ wholeOf kind s =
     record {
       found = Whole (stepOf kind (getD s 1 0) (getD s 2 0));
       size = bodyOf kind + 1;
-      words = cond (eqb kind 3) (wordsOf s) noWords;
+      words = cond (eqb kind 3) (stepWords s) noWords;
     }
 
 -- what starts the bytes: nothing at the input's end, an unknown kind (above 9), a short body, or a step

@@ -3,7 +3,7 @@ ghost use mathlib.Core.Path.{_≡_};
 ghost use Prim.Native.Nat.{_+_, _^_, _≤_, _<_};
 ghost use lib.ListN.{length, drop, getD};
 ghost use Rattle.codec.specs.Bytes.{little};
-ghost use Rattle.codec.specs.Steps.{bodyOf, stepOf, recordsOfByte, wordsOf, none, decodeOf};
+ghost use Rattle.codec.specs.Steps.{bodyOf, stepOf, recordsOfByte, stepWords, none, decodeOf};
 use crate::step::Step;
 
 // What stands at the start of some bytes.
@@ -59,7 +59,7 @@ fn word(s: &[u8], at: usize) -> u64
 // The words of a write, behind its kind, session and record.
 fn words_of(s: &[u8]) -> [u64; 4]
     requires { ⌜ 35 ≤ length (now s) ⌝ }
-    ensures { λ r. ⌜ r ≡ wordsOf (now (s .entry)) ⌝ }
+    ensures { λ r. ⌜ r ≡ stepWords (now (s .entry)) ⌝ }
 {
     [word(s, 3), word(s, 11), word(s, 19), word(s, 27)]
 }

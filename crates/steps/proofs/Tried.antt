@@ -3,7 +3,7 @@ use mathlib.Core.Path.{_≡_, refl}
 use mathlib.Core.List.{List, [], _∷_}
 use Prim.Native.Nat.{ℕ}
 use Rattle.codec.specs.Bytes.{little}
-use Rattle.codec.specs.Steps.{stepOf, wordsOf, noWords, none, decodeOf}
+use Rattle.codec.specs.Steps.{stepOf, stepWords, noWords, none, decodeOf}
 use Rattle.lines.specs.Line.{spelled, decimalOf, stepHead}
 use Rattle.steps.specs.Cut.{cutBack}
 use Rattle.lines.specs.Result.{outcomeText, stepLine, badLine, replayedLine, openLine}
@@ -111,7 +111,7 @@ steps-read : _≡_ {A = List Decoded}
     ∷ none Bad
     ∷ none End
     ∷ [])
-unfolding decodeOf stepOf wordsOf little
+unfolding decodeOf stepOf stepWords little
 steps-read = refl
 
 -- a store, a fence and a store on an image of three words, of which 0 to 4 entries are to arrive

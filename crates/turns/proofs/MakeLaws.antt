@@ -22,7 +22,7 @@ use Rattle.codec.specs.declared.step.Step.the-variants.{Lay, Begin, Read, Write
 use Rattle.steps.proofs.ApplyLaws.{applied-counted}
 use Rattle.steps.proofs.CutLaws.{overlaid-same, cut-made}
 use Rattle.turns.specs.declared.state.State.{State}
-use Rattle.turns.specs.Make.{imageSize, laying, memoryOf, storesB, isCutB, shownOf, notedOf, Puts, toldOf}
+use Rattle.turns.specs.Make.{imageSize, laying, memoryOf, storesB, isCutB, shownOf, notedOf, PutsLine, toldOf}
 use Rattle.turns.specs.State.{putOf, lostOf}
 
 length-made : (es : List Entry) (img : List ℕ) → length (made es img) ≡ length img
@@ -98,9 +98,9 @@ module _ (s : State) (step : Step) (outcome : Outcome) (words : List ℕ) (entri
   told-line = rw (← e, ← q) w
 
   pub told-cut : b ≡ true
-      → Puts (stepLine (s .number) step (shownOf outcome (isCutB s step) entries) words) s (toldOf s step) out out′ (lostOf (putOf t p))
+      → PutsLine (stepLine (s .number) step (shownOf outcome (isCutB s step) entries) words) s (toldOf s step) out out′ (lostOf (putOf t p))
   told-cut y = let z : isCutB s step ≡ true = sym e ∙ y in (told-line, rw (z, n))
 
   pub told-whole : b ≡ false
-      → Puts (stepLine (s .number) step (shownOf outcome (isCutB s step) entries) words) s (toldOf s step) out out′ (putOf t p)
+      → PutsLine (stepLine (s .number) step (shownOf outcome (isCutB s step) entries) words) s (toldOf s step) out out′ (putOf t p)
   told-whole y = let z : isCutB s step ≡ false = sym e ∙ y in (told-line, rw (z, n))

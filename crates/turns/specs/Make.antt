@@ -56,8 +56,8 @@ abbrev pub shownOf : Outcome → Bool → ℕ → Outcome
 shownOf o cut entries = cond (cut && not (eqb entries 0)) WasCut o
 
 -- one line is put behind the lines so far, and the state is the one that the rule gives for where it ends
-abbrev pub Puts : List ℕ → State → (ℕ → State) → List ℕ → List ℕ → State → Type 0
-Puts line s after out out′ r = Put line (s .put) out out′ (r .put) × (r ≡ after (r .put))
+abbrev pub PutsLine : List ℕ → State → (ℕ → State) → List ℕ → List ℕ → State → Type 0
+PutsLine line s after out out′ r = Put line (s .put) out out′ (r .put) × (r ≡ after (r .put))
 
 -- step 9 notes its k; a second one before the cut replaces it
 abbrev pub notedOf : State → Step → State

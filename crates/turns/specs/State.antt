@@ -5,8 +5,8 @@ use lib.Dec.{eqb}
 use Rattle.turns.specs.declared.state.State.{State}
 
 -- a walk starts before the first step, with no image
-abbrev pub startOf : ℕ → Bool → State
-startOf have ended =
+abbrev pub firstState : ℕ → Bool → State
+firstState have ended =
     record {
       at = 0;
       have = have;

@@ -11,7 +11,7 @@ ghost use Rattle.codec.specs.Steps.{noWords};
 ghost use Rattle.codec.specs.declared.step.Step.the-variants.{Lay};
 ghost use Rattle.turns.specs.Bounds.{Ready, Follows};
 ghost use Rattle.turns.specs.Make.{imageSize, storesB, isCutB, arrivesOf, keptOf, shownOf, notedOf, toldOf, badOf, replayedOf, recoveredOf};
-ghost use Rattle.turns.specs.Make.{resumedLine, resumedOf, laying, layOutcome, laidOf, memoryOf, Puts};
+ghost use Rattle.turns.specs.Make.{resumedLine, resumedOf, laying, layOutcome, laidOf, memoryOf, PutsLine};
 use crate::state::State;
 use codec::Step;
 use lines::Outcome;
@@ -39,7 +39,7 @@ fn image_size(memory: usize, n: u64, m: u64) -> usize
 pub fn bad(output: &mut [u8], mut s: State) -> State
     requires { ⌜ s .put + 256 ≤ length (now output) ⌝ }
     ensures { λ r. ⌜ Follows s r (length (now (output .entry))) (s .size) ⌝ }
-    ensures { λ r. ⌜ Puts (badLine (s .number)) s (badOf s) (now (output .entry)) (now (output .exit)) r ⌝ }
+    ensures { λ r. ⌜ PutsLine (badLine (s .number)) s (badOf s) (now (output .entry)) (now (output .exit)) r ⌝ }
 {
     let put = s.put;
     let number = s.number;
@@ -53,7 +53,7 @@ pub fn lay(image: &mut [u64], output: &mut [u8], mut s: State, n: u64, m: u64) -
     requires { ⌜ Ready s (length (now output)) (length (now image)) ⌝ }
     ensures { λ r. ⌜ Follows s r (length (now (output .entry))) (length (now (image .entry))) ⌝ }
     ensures { λ r.
-        ⌜ Puts (stepLine (s .number) (Lay n m) (layOutcome (laying (now (image .entry)) n m)) noWords) s
+        ⌜ PutsLine (stepLine (s .number) (Lay n m) (layOutcome (laying (now (image .entry)) n m)) noWords) s
         (laidOf s (imageSize (length (now (image .entry))) n m) (laying (now (image .entry)) n m)) (now (output .entry))
         (now (output .exit)) r ⌝ }
     ensures { λ r. ⌜ now (image .exit) ≡ memoryOf (now (image .entry)) n m ⌝ }
@@ -197,7 +197,7 @@ pub fn tell(
     requires { ⌜ s .put + 256 ≤ length (now output) ⌝ }
     ensures { λ r. ⌜ Follows s r (length (now (output .entry))) (s .size) ⌝ }
     ensures { λ r.
-        ⌜ Puts (stepLine (s .number) step (shownOf outcome (isCutB s step) entries) words) s (toldOf s step) (now (output .entry))
+        ⌜ PutsLine (stepLine (s .number) step (shownOf outcome (isCutB s step) entries) words) s (toldOf s step) (now (output .entry))
         (now (output .exit)) r ⌝ }
 {
     let cut = is_cut(s, step);
@@ -220,7 +220,7 @@ pub fn tell(
 fn replayed(output: &mut [u8], mut s: State, persist: u64) -> State
     requires { ⌜ s .put + 256 ≤ length (now output) ⌝ }
     ensures { λ r. ⌜ Follows s r (length (now (output .entry))) (s .size) ⌝ }
-    ensures { λ r. ⌜ Puts (replayedLine (s .number) persist) s (replayedOf s) (now (output .entry)) (now (output .exit)) r ⌝ }
+    ensures { λ r. ⌜ PutsLine (replayedLine (s .number) persist) s (replayedOf s) (now (output .entry)) (now (output .exit)) r ⌝ }
 {
     let put = s.put;
     let number = s.number;
@@ -232,7 +232,7 @@ fn replayed(output: &mut [u8], mut s: State, persist: u64) -> State
 fn recovered(output: &mut [u8], mut s: State) -> State
     requires { ⌜ s .put + 256 ≤ length (now output) ⌝ }
     ensures { λ r. ⌜ Follows s r (length (now (output .entry))) (s .size) ⌝ }
-    ensures { λ r. ⌜ Puts (openLine (s .number)) s (recoveredOf s) (now (output .entry)) (now (output .exit)) r ⌝ }
+    ensures { λ r. ⌜ PutsLine (openLine (s .number)) s (recoveredOf s) (now (output .entry)) (now (output .exit)) r ⌝ }
 {
     let put = s.put;
     let number = s.number;
@@ -247,7 +247,7 @@ pub fn resume(image: &mut [u64], trace: &mut [u64], output: &mut [u8], s: State)
     requires { ⌜ s .put + 256 ≤ length (now output) ⌝ }
     ensures { λ r. ⌜ Follows s r (length (now (output .entry))) (s .size) ⌝ }
     ensures { λ r.
-        ⌜ Puts (resumedLine (s .number) (recoverReply (now (image .entry)) (length (now (trace .entry))) .answer)) s
+        ⌜ PutsLine (resumedLine (s .number) (recoverReply (now (image .entry)) (length (now (trace .entry))) .answer)) s
         (resumedOf s (recoverReply (now (image .entry)) (length (now (trace .entry))) .answer)) (now (output .entry)) (now (output .exit))
         r ⌝ }
     ensures { λ r. ⌜ now (image .exit) ≡ made (recoverEntries (now (image .entry)) (length (now (trace .entry)))) (now (image .entry)) ⌝ }

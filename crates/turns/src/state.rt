@@ -3,7 +3,7 @@ ghost use mathlib.Core.Bool.{not};
 ghost use mathlib.Core.Path.{_≡_};
 ghost use Prim.Native.Nat.{_+_, _-_, _≤_, _<_, _^_};
 ghost use Rattle.turns.specs.Bounds.{Follows};
-ghost use Rattle.turns.specs.State.{startOf, countedOf, writtenOf, filledOf, stoppedOf, openedOf};
+ghost use Rattle.turns.specs.State.{firstState, countedOf, writtenOf, filledOf, stoppedOf, openedOf};
 
 // The input held is input[at..have], the lines not yet written are output[..put], the image is the first `size` words (0: not laid yet).
 // `cutting`: of the next step that stores, `cut` entries arrive. `lost`: the desk is lost, and recovery is to come. `closed`: the image is
@@ -24,7 +24,7 @@ pub struct State {
 
 pub fn start(have: usize, ended: bool) -> State
     ensures { λ r. ⌜ (r .at ≡ 0) × (r .have ≡ have) × (r .put ≡ 0) × (r .size ≡ 0) × (r .number ≡ 0) ⌝ }
-    ensures { λ r. ⌜ r ≡ startOf have ended ⌝ }
+    ensures { λ r. ⌜ r ≡ firstState have ended ⌝ }
 {
     State {
         at: 0,

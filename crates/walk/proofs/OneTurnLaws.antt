@@ -13,7 +13,7 @@ use Rattle.desk.specs.declared.state.Desk.{Desk}
 use Rattle.recovery.specs.Open.{openReply}
 use Rattle.codec.specs.declared.step.Step.{Step}
 use Rattle.turns.specs.State.{writtenOf, openedOf}
-use Rattle.walk.specs.Walk.{Heard, Work, imageOf, inState, aside, called, workAfter, deskAfter, Fed, OtherTurn, World, fullB, nextOf, OneTurn, Walked, mostTurns, WholeWalk}
+use Rattle.walk.specs.Walk.{Heard, Work, imageOf, inState, aside, called, workAfter, deskTurned, Fed, OtherTurn, Scene, fullB, nextOf, OneTurn, Walked, mostTurns, WholeWalk}
 use Rattle.turns.specs.declared.state.State.{State}
 use Rattle.walk.specs.declared.turn.Turn.{Turn}
 use Rattle.walk.specs.declared.turn.Turn.the-variants.{Open, Recover, Fill, Call, Lay, Bad, End}
@@ -27,7 +27,7 @@ others = 1 ∷ 2 ∷ 4 ∷ 5 ∷ 6 ∷ []
 
 -- the work and the desk after one of them
 other-work : (len : ℕ) (h : Heard) (turn : Turn) (words : List ℕ) (d : Desk) (w : Work) → OneOf others (tagOf the-type turn)
-    → (workAfter len h turn words d w ≡ aside len h turn w) × (deskAfter len turn words d w ≡ d)
+    → (workAfter len h turn words d w ≡ aside len h turn w) × (deskTurned len turn words d w ≡ d)
 other-work len h Open words d w k = absurd (miss others 0 tt k)
 other-work len h Recover words d w k = (refl, refl)
 other-work len h Fill words d w k = (refl, refl)
@@ -36,7 +36,7 @@ other-work len h (Lay n m) words d w k = (refl, refl)
 other-work len h Bad words d w k = (refl, refl)
 other-work len h End words d w k = (refl, refl)
 
-module _ (len : ℕ) (w : World) where
+module _ (len : ℕ) (w : Scene) where
   -- the lines were written out
   pub written-turn : (done : Bool) {s : State} → fullB (w .work) ≡ true → s ≡ writtenOf (w .work .state) (not done)
       → OneTurn len w (record { input = w .input; work = inState (w .work) s; desk = w .desk })
@@ -44,11 +44,11 @@ module _ (len : ℕ) (w : World) where
 
   module _ {t : Taken} (f : fullB (w .work) ≡ false) (q : t ≡ nextOf w) where
     -- any other turn, by what it is
-    acted : (h : Heard) {v : World} → Fed (t .turn) (t .state) (w .input) h
+    acted : (h : Heard) {v : Scene} → Fed (t .turn) (t .state) (w .input) h
         → v ≡ record {
           input = h .input;
           work = workAfter len h (t .turn) (t .words) (w .desk) (inState (w .work) (t .state));
-          desk = deskAfter len (t .turn) (t .words) (w .desk) (inState (w .work) (t .state));
+          desk = deskTurned len (t .turn) (t .words) (w .desk) (inState (w .work) (t .state));
         }
         → OneTurn len w v
     acted h g e = rw f (h, rw q at g, rw q at e)
@@ -61,7 +61,7 @@ module _ (len : ℕ) (w : World) where
     -- a step was made
     pub called-turn : (step : Step) {d : Desk} {v : Work} → t .turn ≡ Call step
         → v ≡ called len (w .desk) step (t .words) (inState (w .work) (t .state))
-        → d ≡ deskAfter len (Call step) (t .words) (w .desk) (inState (w .work) (t .state))
+        → d ≡ deskTurned len (Call step) (t .words) (w .desk) (inState (w .work) (t .state))
         → OneTurn len w (record { input = w .input; work = v; desk = d })
     called-turn step o e z = acted (nothingHeard (w .input)) (rw o refl) (rw (o, e, z))
 
@@ -74,17 +74,17 @@ module _ (len : ℕ) (w : World) where
         acted (o .0) (o .1) (rw (p .0, p .1, o .2, o .3))
 
 -- some turns were made from u to w, and `left` of the most are left
-pub record Went (len : ℕ) (u w : World) (left : ℕ) : Type 0 where
+pub record Went (len : ℕ) (u w : Scene) (left : ℕ) : Type 0 where
   pub made : ℕ
   pub walked : Walked len made u w
   pub count : made + left ≡ mostTurns
 
-pub went-none : {len : ℕ} {w : World} {left : ℕ} → left ≡ mostTurns → Went len w w left
+pub went-none : {len : ℕ} {w : Scene} {left : ℕ} → left ≡ mostTurns → Went len w w left
 unfolding Walked
 went-none e = record { made = 0; walked = refl; count = omega arith }
 
 -- one turn more
-pub went-on : {len k : ℕ} {u v w : World} {left : ℕ} → k ≡ len → 0 < left → Went len u v left → OneTurn k v w → Went len u w (left - 1)
+pub went-on : {len k : ℕ} {u v w : Scene} {left : ℕ} → k ≡ len → 0 < left → Went len u v left → OneTurn k v w → Went len u w (left - 1)
 unfolding Walked
 went-on {v = v} e l g o = record { made = suc (g .made); walked = (v, g .walked, rw e at o); count = omega (arith, g .count) }
 
@@ -93,7 +93,7 @@ pub goes-on : (left : ℕ) (stopped : Bool) → ltb 0 left && not stopped ≡ tr
 goes-on left true e = absurd (false≢true (sym (and-false (ltb 0 left)) ∙ e))
 goes-on left false e = ltb-true 0 left (sym (and-true (ltb 0 left)) ∙ e)
 
-pub went-whole : {len : ℕ} {u w : World} {left : ℕ} → ltb 0 left && not (w .work .state .stopped) ≡ false → Went len u w left → WholeWalk len u w
+pub went-whole : {len : ℕ} {u w : Scene} {left : ℕ} → ltb 0 left && not (w .work .state .stopped) ≡ false → Went len u w left → WholeWalk len u w
 went-whole {w = w} {left = left} e g = (g .made, g .walked, over (w .work .state .stopped) refl e)
   where
     over : (b : Bool) → w .work .state .stopped ≡ b → ltb 0 left && not b ≡ false → (w .work .state .stopped ≡ true) ⊎ (g .made ≡ mostTurns)

@@ -103,14 +103,14 @@ workAfter len h Bad words d w = aside len h Bad w
 workAfter len h End words d w = aside len h End w
 
 -- the desk after a turn: an opening gives it, a call changes it
-abbrev pub deskAfter : ℕ → Turn → List ℕ → Desk → Work → Desk
-deskAfter len Open words d w = openReply (imageOf w) .desk
-deskAfter len Recover words d w = d
-deskAfter len Fill words d w = d
-deskAfter len (Call step) words d w = appliedOf (imageOf w) d len step words .desk
-deskAfter len (Lay n m) words d w = d
-deskAfter len Bad words d w = d
-deskAfter len End words d w = d
+abbrev pub deskTurned : ℕ → Turn → List ℕ → Desk → Work → Desk
+deskTurned len Open words d w = openReply (imageOf w) .desk
+deskTurned len Recover words d w = d
+deskTurned len Fill words d w = d
+deskTurned len (Call step) words d w = appliedOf (imageOf w) d len step words .desk
+deskTurned len (Lay n m) words d w = d
+deskTurned len Bad words d w = d
+deskTurned len End words d w = d
 
 -- a read keeps the bytes held and brings others behind them; no other turn touches the input
 abbrev pub Fed : Turn → State → List ℕ → Heard → Type 0
@@ -127,36 +127,36 @@ abbrev pub OtherTurn : ℕ → Turn → List ℕ → Work → List ℕ → Work 
 OtherTurn len turn input w input′ w′ = (h : Heard) × Fed turn (w .state) input h × (input′ ≡ h .input) × (w′ ≡ aside len h turn w)
 
 -- all that a walk goes by
-pub record World : Type 0 where
+pub record Scene : Type 0 where
   pub input : List ℕ
   pub work : Work
   pub desk : Desk
 
-abbrev pub worldOf : List ℕ → List ℕ → List ℕ → Desk → State → World
-worldOf input memory output d s = record { input = input; work = record { memory = memory; output = output; state = s }; desk = d }
+abbrev pub sceneOf : List ℕ → List ℕ → List ℕ → Desk → State → Scene
+sceneOf input memory output d s = record { input = input; work = record { memory = memory; output = output; state = s }; desk = d }
 
 -- there may be too little room for a line: less than 256 bytes are left of the output
 abbrev pub fullB : Work → Bool
 fullB w = ltb (length (w .output) - w .state .put) 256
 
 -- the turn that comes where there is room
-abbrev pub nextOf : World → Taken
+abbrev pub nextOf : Scene → Taken
 nextOf w = turnOf (w .input) (w .work .state)
 
 -- the lines are written out; a write that fails stops the walk
-abbrev pub writing : Heard → World → World
+abbrev pub writing : Heard → Scene → Scene
 writing h w = record { input = h .input; work = inState (w .work) (writtenOf (w .work .state) (not (h .done))); desk = w .desk }
 
-abbrev pub acting : ℕ → Heard → World → World
+abbrev pub acting : ℕ → Heard → Scene → Scene
 acting len h w =
     record {
       input = h .input;
       work = workAfter len h (nextOf w .turn) (nextOf w .words) (w .desk) (inState (w .work) (nextOf w .state));
-      desk = deskAfter len (nextOf w .turn) (nextOf w .words) (w .desk) (inState (w .work) (nextOf w .state));
+      desk = deskTurned len (nextOf w .turn) (nextOf w .words) (w .desk) (inState (w .work) (nextOf w .state));
     }
 
 -- what a turn leaves, by what the operating system answered: lines are written out first where there is little room for one more
-abbrev pub turned : ℕ → Heard → World → World
+abbrev pub turned : ℕ → Heard → Scene → Scene
 turned len h w = cond (fullB (w .work)) (writing h w) (acting len h w)
 
 -- what holds of the input that a turn leaves
@@ -165,23 +165,23 @@ InputKept true turn s input h = h .input ≡ input
 InputKept false turn s input h = Fed turn s input h
 
 -- w′ is what a turn leaves of w, with some answer of the operating system
-abbrev pub OneTurn : ℕ → World → World → Type 0
+abbrev pub OneTurn : ℕ → Scene → Scene → Type 0
 OneTurn len w w′ = (h : Heard) × InputKept (fullB (w .work)) (nextOf w .turn) (nextOf w .state) (w .input) h × (w′ ≡ turned len h w)
 
 -- w is what n turns leave of u
-unfoldable pub Walked : ℕ → ℕ → World → World → Type 0
+unfoldable pub Walked : ℕ → ℕ → Scene → Scene → Type 0
 Walked len zero u w = u ≡ w
-Walked len (suc n) u w = (v : World) × Walked len n u v × OneTurn len v w
+Walked len (suc n) u w = (v : Scene) × Walked len n u v × OneTurn len v w
 
 -- the most turns of a walk
 abbrev pub mostTurns : ℕ
 mostTurns = 18_446_744_073_709_551_614
 
 -- a whole walk: turn after turn, until one stops it or the most turns are made
-abbrev pub WholeWalk : ℕ → World → World → Type 0
+abbrev pub WholeWalk : ℕ → Scene → Scene → Type 0
 WholeWalk len u w = (n : ℕ) × Walked len n u w × ((w .work .state .stopped ≡ true) ⊎ (n ≡ mostTurns))
 
 -- a whole walk leaves these in its buffers
-abbrev pub Leaves : ℕ → World → List ℕ → List ℕ → List ℕ → Type 0
+abbrev pub Leaves : ℕ → Scene → List ℕ → List ℕ → List ℕ → Type 0
 Leaves len u input memory output =
-    (w : World) × WholeWalk len u w × (input ≡ w .input) × (memory ≡ w .work .memory) × (output ≡ w .work .output)
+    (w : Scene) × WholeWalk len u w × (input ≡ w .input) × (memory ≡ w .work .memory) × (output ≡ w .work .output)

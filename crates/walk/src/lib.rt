@@ -3,8 +3,8 @@
 ghost use Prim.Native.Nat.{_≤_};
 ghost use lib.ListN.{length};
 ghost use Rattle.recovery.specs.Open.{openReply};
-ghost use Rattle.turns.specs.State.{startOf};
-ghost use Rattle.walk.specs.Walk.{worldOf, Leaves};
+ghost use Rattle.turns.specs.State.{firstState};
+ghost use Rattle.walk.specs.Walk.{sceneOf, Leaves};
 
 mod turn;
 mod turning;
@@ -29,8 +29,8 @@ pub fn run(
     requires { ⌜ (256 ≤ length (now output)) × (have ≤ length (now input)) × (length (now image) ≤ length (now before)) ⌝ }
     ensures { λ r.
         ⌜ Leaves (length (now (trace .entry)))
-        (worldOf (now (input .entry)) (now (image .entry)) (now (output .entry)) (openReply (now (image .entry)) .desk)
-        (startOf have ended)) (now (input .exit)) (now (image .exit)) (now (output .exit)) ⌝ }
+        (sceneOf (now (input .entry)) (now (image .entry)) (now (output .entry)) (openReply (now (image .entry)) .desk)
+        (firstState have ended)) (now (input .exit)) (now (image .exit)) (now (output .exit)) ⌝ }
 {
     let mut s = start(have, ended);
     let none = store::open(image);

@@ -3,7 +3,7 @@ ghost use mathlib.Core.Path.{_≡_};
 ghost use Prim.Native.Nat.{_+_, _<_, _≤_, _^_};
 ghost use lib.ListN.{length};
 ghost use Rattle.walk.specs.Bounds.{Within};
-ghost use Rattle.walk.specs.Walk.{OtherTurn, worldOf, OneTurn};
+ghost use Rattle.walk.specs.Walk.{OtherTurn, sceneOf, OneTurn};
 use crate::turn::Turn;
 use crate::turn::next_turn;
 use store::Desk;
@@ -82,8 +82,8 @@ pub fn take_turn(
     ensures { λ r. ⌜ Within (r .state) (length (now (input .entry))) (length (now (output .entry))) (length (now (image .entry)))
         × (r .state .number ≤ s .number + 1) ⌝ }
     ensures { λ r.
-        ⌜ OneTurn (length (now (trace .entry))) (worldOf (now (input .entry)) (now (image .entry)) (now (output .entry)) desk s)
-        (worldOf (now (input .exit)) (now (image .exit)) (now (output .exit)) (r .desk) (r .state)) ⌝ }
+        ⌜ OneTurn (length (now (trace .entry))) (sceneOf (now (input .entry)) (now (image .entry)) (now (output .entry)) desk s)
+        (sceneOf (now (input .exit)) (now (image .exit)) (now (output .exit)) (r .desk) (r .state)) ⌝ }
 {
     if output.len() - s.put < 256 {
         let done = feed::write_out(output, s.put);

@@ -4,7 +4,7 @@ use native.Mathlib.Omega.{arith}
 use lib.ListN.{length}
 use borrow.Author.Needs.{needs}
 use Rattle.walk.specs.Bounds.{Within}
-use Rattle.walk.specs.Walk.{worldOf, mostTurns}
+use Rattle.walk.specs.Walk.{sceneOf, mostTurns}
 use Rattle.walk.proofs.Turns.{kept, renamed}
 use Rattle.walk.proofs.OneTurnLaws.{Went, went-none, went-on, goes-on, went-whole}
 use Rattle.walk.proofs.run.Statement.{statement}
@@ -19,7 +19,7 @@ Inv-loop input₀ image₀ before₀ trace₀ output₀ have ended s₀ desk₀ 
     × (length trace ≡ length trace₀)
     × (length output ≡ length output₀)
     × (s .number + turns ≤ mostTurns)
-    × Went (length trace₀) (worldOf input₀ image₀ output₀ desk₀ s₀) (worldOf input image output desk s) turns
+    × Went (length trace₀) (sceneOf input₀ image₀ output₀ desk₀ s₀) (sceneOf input image output desk s) turns
 
 abbrev μ-loop : tie.MeasureT-loop
 μ-loop input₀ image₀ before₀ trace₀ output₀ have ended s₀ desk₀ turns₀ input image before trace output s desk turns = turns

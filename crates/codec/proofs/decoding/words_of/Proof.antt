@@ -1,4 +1,4 @@
-use Rattle.codec.specs.Steps.{wordsOf}
+use Rattle.codec.specs.Steps.{stepWords}
 use borrow.Author.Needs.{needs}
 use Rattle.codec.proofs.decoding.words_of.Statement.{statement}
 use Rattle.codec.proofs.decoding.words_of.Tie as tie
@@ -16,7 +16,7 @@ word-requires-4 : tie.Need-word-requires-4
 word-requires-4 c κs = search needs
 
 returns : tie.Need-returns
-unfolding wordsOf
+unfolding stepWords
 returns c = search needs
 
 pub words-of-spec : {M : Type 1} → statement M

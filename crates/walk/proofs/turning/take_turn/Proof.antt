@@ -5,7 +5,7 @@ use lib.Seq.{length-take-le}
 use borrow.Author.Tests.{lt-ltb, le-ltb}
 use Rattle.recovery.specs.declared.opening.OpenReply.{OpenReply}
 use Rattle.steps.specs.declared.applying.Applied.{Applied}
-use Rattle.walk.specs.Walk.{worldOf, inState}
+use Rattle.walk.specs.Walk.{sceneOf, inState}
 use Rattle.walk.proofs.WalkLaws.{called-by}
 use Rattle.walk.proofs.Turns.{written-within, turned}
 use Rattle.walk.proofs.OneTurnLaws.{written-turn, opened-turn, called-turn, other-turn}
@@ -33,7 +33,7 @@ returns c =
     let a = (c .before .before .before .before .before .before .before .before .before .before .before) .args in
     let e = (c .before) .written .ensures in
     let a-pre = (c .before .before .before .before .before .before .before .before .before .before .before) .pre in
-    rw (c .gives .ensures) ((written-within (a-pre .0) (e .1), omega (arith, e .0 .4)), written-turn (length (a .trace .now)) (worldOf (a .input .now) (a .image .now) (a .output .now) (a .desk) (a .s)) ((c .before .before) .write-out .result) (lt-ltb _ _ ((c .before .before .before .before) .if1 .taken)) (e .1))
+    rw (c .gives .ensures) ((written-within (a-pre .0) (e .1), omega (arith, e .0 .4)), written-turn (length (a .trace .now)) (sceneOf (a .input .now) (a .image .now) (a .output .now) (a .desk) (a .s)) ((c .before .before) .write-out .result) (lt-ltb _ _ ((c .before .before .before .before) .if1 .taken)) (e .1))
 
 next-turn-requires : tie.Need-next-turn-requires
 next-turn-requires c κs = search needs
@@ -95,7 +95,7 @@ returns-2 c =
     let e = (c .before) .opened .ensures in
     rw (c .gives2 .ensures) (
       (turned ((c .before .before .before .before .before .before .before .before .before .before .before .before .before .before .before .before .before) .pre .0) (n .0) (e .0) (search needs), omega (arith, n .0 .numbered, e .0 .numbered)),
-      opened-turn (length (a .trace .now)) (worldOf (a .input .now) (a .image .now) (a .output .now) (a .desk) (a .s)) (le-ltb _ _ ((c .before .before .before .before .before .before .before .before .before .before) .if1 .left)) (n .1) ((c .before .before .before .before .before) .enum-told .given .1) (ap (λ (x : OpenReply). x .desk) ((c .before .before .before) .«open» .ensures)) (e .1),
+      opened-turn (length (a .trace .now)) (sceneOf (a .input .now) (a .image .now) (a .output .now) (a .desk) (a .s)) (le-ltb _ _ ((c .before .before .before .before .before .before .before .before .before .before) .if1 .left)) (n .1) ((c .before .before .before .before .before) .enum-told .given .1) (ap (λ (x : OpenReply). x .desk) ((c .before .before .before) .«open» .ensures)) (e .1),
     )
 
 same-length-4 : tie.Need-same-length-4
@@ -119,7 +119,7 @@ returns-3 c =
     let n = (c .before .before .before .before .before .before .before .before .before .before .before .before .before .before .before .before .before .before .before .before .before .before) .next-turn .ensures in
     let m = (c .before .before .before .before .before .before .before .before .before .before .before .before .before) .make .ensures in
     let t = (c .before .before .before) .tell .ensures in
-    let w = worldOf (a .input .now) (a .image .now) (a .output .now) (a .desk) (a .s) in
+    let w = sceneOf (a .input .now) (a .image .now) (a .output .now) (a .desk) (a .s) in
     rw (c .gives3 .ensures) (
       (turned ((c .before .before .before .before .before .before .before .before .before .before .before .before .before .before .before .before .before .before .before .before .before .before .before .before .before .before .before .before .before .before .before) .pre .0) (n .0) (t .0) (search needs), omega (arith, n .0 .numbered, t .0 .numbered)),
       called-turn (length (a .trace .now)) w (le-ltb _ _ ((c .before .before .before .before .before .before .before .before .before .before .before .before .before .before .before .before .before .before .before .before .before .before .before .before) .if1 .left)) (n .1) _ ((c .before .before .before .before .before .before .before .before .before .before .before .before .before .before .before .before .before .before .before) .turn .given .1)
@@ -146,7 +146,7 @@ returns-4 c =
     let e = (c .before .before .before .before .before .before .before .before .before) .other-turn .ensures in
     rw (c .gives4 .ensures) (
       (e .0 .0, omega (arith, n .0 .numbered, e .0 .1)),
-      other-turn (length (a .trace .now)) (worldOf (a .input .now) (a .image .now) (a .output .now) (a .desk) (a .s)) (le-ltb _ _ ((c .before .before .before .before .before .before .before .before .before .before .before .before .before .before .before .before .before .before) .if1 .left)) (n .1) ((c .before .before .before .before .before .before .before .before .before .before .before .before .before .before) .match .keys3) (e .1),
+      other-turn (length (a .trace .now)) (sceneOf (a .input .now) (a .image .now) (a .output .now) (a .desk) (a .s)) (le-ltb _ _ ((c .before .before .before .before .before .before .before .before .before .before .before .before .before .before .before .before .before .before) .if1 .left)) (n .1) ((c .before .before .before .before .before .before .before .before .before .before .before .before .before .before) .match .keys3) (e .1),
     )
 
 pub take-turn-spec : {M : Type 1} → statement M
