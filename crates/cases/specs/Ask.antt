@@ -41,23 +41,37 @@ stepAnswered img d len step ws =
     (appliedOf img d len step ws .entries)
     (appliedOf img d len step ws .desk)
 
+-- the image and the trace that recover leaves
+abbrev pub recoverImage : List ℕ → ℕ → List ℕ
+recoverImage img len = made (recoverEntries img len) img
+
+abbrev pub recoverTrace : List ℕ → List ℕ → List ℕ
+recoverTrace img trace = listed (recoverEntries img (length trace)) trace
+
+-- the image and the trace that a session call leaves
+abbrev pub stepImage : List ℕ → Desk → ℕ → Step → List ℕ
+stepImage img d len step = made (appliedEntries img d len step) img
+
+abbrev pub stepTrace : List ℕ → Desk → List ℕ → Step → List ℕ
+stepTrace img d trace step = listed (appliedEntries img d (length trace) step) trace
+
 -- what a request is answered, on an image, a desk and a trace of this length; `ws` are the words of a write
-abbrev pub askedOf : List ℕ → Desk → ℕ → Request → List ℕ → Answered
+unfoldable pub askedOf : List ℕ → Desk → ℕ → Request → List ℕ → Answered
 askedOf img d len (Lay n m) ws = layAnswered img d n m
 askedOf img d len Open ws = openAnswered img
 askedOf img d len Recover ws = recoverAnswered img d len
 askedOf img d len (Session step) ws = stepAnswered img d len step ws
 
 -- the image that it leaves
-abbrev pub askedImage : List ℕ → Desk → ℕ → Request → List ℕ
+unfoldable pub askedImage : List ℕ → Desk → ℕ → Request → List ℕ
 askedImage img d len (Lay n m) = laidImage n m img
 askedImage img d len Open = img
-askedImage img d len Recover = made (recoverEntries img len) img
-askedImage img d len (Session step) = made (appliedEntries img d len step) img
+askedImage img d len Recover = recoverImage img len
+askedImage img d len (Session step) = stepImage img d len step
 
 -- the trace that it leaves
-abbrev pub askedTrace : List ℕ → Desk → List ℕ → Request → List ℕ
+unfoldable pub askedTrace : List ℕ → Desk → List ℕ → Request → List ℕ
 askedTrace img d trace (Lay n m) = trace
 askedTrace img d trace Open = trace
-askedTrace img d trace Recover = listed (recoverEntries img (length trace)) trace
-askedTrace img d trace (Session step) = listed (appliedEntries img d (length trace) step) trace
+askedTrace img d trace Recover = recoverTrace img trace
+askedTrace img d trace (Session step) = stepTrace img d trace step

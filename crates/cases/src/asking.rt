@@ -1,12 +1,9 @@
 // A call made, and answered by plain numbers.
 ghost use mathlib.Core.Path.{_≡_};
 ghost use lib.ListN.{length};
-ghost use Rattle.layout.specs.Entries.{made, listed};
 ghost use Rattle.layout.specs.Lay.{laidImage};
-ghost use Rattle.recovery.specs.Recover.{recoverEntries};
-ghost use Rattle.steps.specs.Apply.{appliedEntries};
 ghost use Rattle.cases.specs.Ask.{answeredOf, layAnswered, openAnswered, recoverAnswered, stepAnswered};
-ghost use Rattle.cases.specs.Ask.{askedOf, askedImage, askedTrace};
+ghost use Rattle.cases.specs.Ask.{recoverImage, recoverTrace, stepImage, stepTrace, askedOf, askedImage, askedTrace};
 use crate::told::Told;
 use crate::told::lay_told;
 use crate::told::open_told;
@@ -63,8 +60,8 @@ fn ask_open(image: &[u64]) -> Answered
 
 fn ask_recover(image: &mut [u64], desk: Desk, trace: &mut [u64]) -> Answered
     ensures reply { λ r. ⌜ r ≡ recoverAnswered (now (image .entry)) desk (length (now (trace .entry))) ⌝ }
-    ensures image { λ r. ⌜ now (image .exit) ≡ made (recoverEntries (now (image .entry)) (length (now (trace .entry)))) (now (image .entry)) ⌝ }
-    ensures trace { λ r. ⌜ now (trace .exit) ≡ listed (recoverEntries (now (image .entry)) (length (now (trace .entry)))) (now (trace .entry)) ⌝ }
+    ensures image { λ r. ⌜ now (image .exit) ≡ recoverImage (now (image .entry)) (length (now (trace .entry))) ⌝ }
+    ensures trace { λ r. ⌜ now (trace .exit) ≡ recoverTrace (now (image .entry)) (now (trace .entry)) ⌝ }
 {
     let r = store::recover(image, trace);
     let a = r.answer;
@@ -79,8 +76,8 @@ fn ask_step(
     words: [u64; 4],
 ) -> Answered
     ensures reply { λ r. ⌜ r ≡ stepAnswered (now (image .entry)) desk (length (now (trace .entry))) step words ⌝ }
-    ensures image { λ r. ⌜ now (image .exit) ≡ made (appliedEntries (now (image .entry)) desk (length (now (trace .entry))) step) (now (image .entry)) ⌝ }
-    ensures trace { λ r. ⌜ now (trace .exit) ≡ listed (appliedEntries (now (image .entry)) desk (length (now (trace .entry))) step) (now (trace .entry)) ⌝ }
+    ensures image { λ r. ⌜ now (image .exit) ≡ stepImage (now (image .entry)) desk (length (now (trace .entry))) step ⌝ }
+    ensures trace { λ r. ⌜ now (trace .exit) ≡ stepTrace (now (image .entry)) desk (now (trace .entry)) step ⌝ }
 {
     let r = steps::apply(image, desk, trace, step, words);
     let o = r.outcome;

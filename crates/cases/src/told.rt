@@ -1,5 +1,5 @@
-// Answers as numbers: the refusal's number, or 20 ok, 21 start, 22 own, 23 copy, 24 home, 25 empty, 26 sealed, 27 end, 28 wait, 29 none, 30 held,
-// 31 cleared, 32 clean, 33 replayed.
+// Answers as numbers: the refusal's number, or 20 ok, 21 start, 22 own, 23 copy, 24 home, 25 empty, 26 sealed, 27 end, 28 wait, 29 none,
+// 30 held, 31 cleared, 32 clean, 33 replayed.
 ghost use mathlib.Core.Path.{_≡_};
 ghost use Rattle.cases.specs.Told.{told, outcomeTold, layTold, openTold, recoverTold};
 use lines::Outcome;
