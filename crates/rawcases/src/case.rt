@@ -1,4 +1,7 @@
-// A case: its call made on its image, desk and trace, and the fields of its line.
+// A case: its call made on its image, desk and trace, and the fields of its line. The function that has a `requires` is for use
+// inside this crate.
+ghost use mathlib.Core.Path.{_≡_};
+ghost use lib.ListN.{length};
 use crate::input::within;
 use cases::Answered;
 use cases::Request;
@@ -39,33 +42,21 @@ fn marked_trace() -> [u64; 64] {
     trace
 }
 
-// A case after its call.
-struct Made {
-    words: [u64; 2454],
-    trace: [u64; 64],
-    answered: Answered,
-}
-
 // Makes the call of a case on its image, its desk and its trace.
-fn make(mut words: [u64; 2454]) -> Made {
+fn made(words: &mut [u64], trace: &mut [u64], request: Request) -> Answered
+    requires { ⌜ (length (now words) ≡ 2454) × (length (now trace) ≡ 64) ⌝ }
+{
     let end = 654 + within(words[10], 1800);
     let size = within(words[9], 64);
     let four = [words[5], words[6], words[7], words[8]];
-    let request = request_of(words);
     let desk = cases::desk_of(&words[11..654]);
-    let mut trace = marked_trace();
-    let answered = cases::ask(
+    cases::ask(
         &mut words[654..end],
         desk,
         &mut trace[..size],
         request,
         four,
-    );
-    Made {
-        words: words,
-        trace: trace,
-        answered: answered,
-    }
+    )
 }
 
 fn image_digest(words: [u64; 2454], call: u64) -> u64 {
@@ -92,11 +83,10 @@ fn desk_digest(desk: Desk, call: u64) -> u64 {
 }
 
 // Makes the call of a case and answers the fields of its line behind the number.
-pub fn fields(case: [u64; 2454]) -> [u64; 11] {
-    let m = make(case);
-    let words = m.words;
-    let trace = m.trace;
-    let r = m.answered;
+pub fn fields(mut words: [u64; 2454]) -> [u64; 11] {
+    let mut trace = marked_trace();
+    let request = request_of(words);
+    let r = made(&mut words, &mut trace, request);
     let call = words[0];
     let got = r.words;
     let left = r.desk;
