@@ -6,7 +6,6 @@ use crate::input::within;
 use cases::Answered;
 use cases::Request;
 use codec::Step;
-use store::Desk;
 
 fn step_of(call: u64, session: u64, rec: u64) -> Step {
     match call {
@@ -59,27 +58,19 @@ fn made(words: &mut [u64], trace: &mut [u64], request: Request) -> Answered
     )
 }
 
-fn image_digest(words: [u64; 2454], call: u64) -> u64 {
-    if (call == 1) | (call == 5) | (call == 8) {
-        return 0;
-    }
+fn image_digest(words: [u64; 2454]) -> u64 {
     let end = 654 + within(words[10], 1800);
     cases::digest(&words[654..end])
 }
 
-fn trace_digest(trace: [u64; 64], words: u64, call: u64) -> u64 {
+fn trace_digest(trace: [u64; 64], words: u64) -> u64 {
     let size = within(words, 64);
-    if (call == 4) | (call == 6) | (call == 7) | (call == 10) {
-        return cases::digest(&trace[..size]);
-    }
-    0
+    cases::digest(&trace[..size])
 }
 
-fn desk_digest(desk: Desk, call: u64) -> u64 {
-    if (call == 0) | (call == 10) {
-        return 0;
-    }
-    cases::desk_digest(desk)
+// A digest where the call has what it is of, or else 0.
+fn shown(has: bool, digest: u64) -> u64 {
+    if has { digest } else { 0 }
 }
 
 // Makes the call of a case and answers the fields of its line behind the number.
@@ -90,9 +81,12 @@ pub fn fields(mut words: [u64; 2454]) -> [u64; 11] {
     let call = words[0];
     let got = r.words;
     let left = r.desk;
-    let a = image_digest(words, call);
-    let b = trace_digest(trace, words[9], call);
-    let c = desk_digest(left, call);
+    let image = (call != 1) & (call != 5) & (call != 8);
+    let entries = (call == 4) | (call == 6) | (call == 7) | (call == 10);
+    let desk = (call != 0) & (call != 10);
+    let a = shown(image, image_digest(words));
+    let b = shown(entries, trace_digest(trace, words[9]));
+    let c = shown(desk, cases::desk_digest(left));
     [
         call,
         r.answer,

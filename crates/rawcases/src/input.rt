@@ -88,6 +88,11 @@ pub fn within(size: u64, most: usize) -> usize
     }
 }
 
+// Whether the call is known and the lengths of the trace and the image are within their bounds.
+fn sound(words: [u64; 2454]) -> bool {
+    (words[0] <= 10) & (words[9] <= 64) & (words[10] <= 1800)
+}
+
 // Unpacks the case at a place of the input held; its size is 0 where there is no whole case, or one that is out of bounds.
 pub fn unpack(input: &[u8; 65536], from: usize, have: usize) -> Case
     requires { ⌜ (from ≤ have) × (have ≤ 65536) ⌝ }
@@ -104,7 +109,7 @@ pub fn unpack(input: &[u8; 65536], from: usize, have: usize) -> Case
         at += t.size;
         end = 654 + within(words[10], 1800);
     }
-    let good = (n == end) & (words[0] <= 10) & (words[9] <= 64) & (words[10] <= 1800);
+    let good = (n == end) & sound(words);
     let size = if good && at <= have { at - from } else { 0 };
     Case {
         words: words,

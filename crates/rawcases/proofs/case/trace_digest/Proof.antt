@@ -11,16 +11,13 @@ array-share-prefix-trace : tie.Need-array-share-prefix-trace
 array-share-prefix-trace c = search needs
 
 slice-aggregate-digest : tie.Need-slice-aggregate-digest
-slice-aggregate-digest c = sym (length-take-le ((c .before .before) .within .result) ((c .before .before .before) .args .t1) (search needs))
+slice-aggregate-digest c = sym (length-take-le ((c .before) .within .result) ((c .before .before) .args .t1) (search needs))
 
 digest-requires : tie.Need-digest-requires
 digest-requires c κs = search needs
 
 returns : tie.Need-returns
 returns c = search needs
-
-returns-2 : tie.Need-returns-2
-returns-2 c = search needs
 
 pub trace-digest-spec : {M : Type 1} → statement M
 trace-digest-spec =
@@ -30,5 +27,4 @@ trace-digest-spec =
     array-share-prefix-trace
     slice-aggregate-digest
     digest-requires
-    returns
-    returns-2)
+    returns)

@@ -44,14 +44,8 @@ loop-less c = omega (arith, ltb-true)
 loop-again : tie.Need-loop-again Inv-loop μ-loop
 loop-again c = (search needs, search needs, search needs, omega (arith, ltb-true))
 
-array-read-good : tie.Need-array-read-good Inv-loop μ-loop
-array-read-good c = search needs
-
-array-read-good-2 : tie.Need-array-read-good-2 Inv-loop μ-loop
-array-read-good-2 c = search needs
-
-array-read-good-3 : tie.Need-array-read-good-3 Inv-loop μ-loop
-array-read-good-3 c = search needs
+sound-requires : tie.Need-sound-requires Inv-loop μ-loop
+sound-requires c κs = search needs
 
 sub-size : tie.Need-sub-size Inv-loop μ-loop
 sub-size c = search needs
@@ -79,9 +73,7 @@ unpack-spec =
     add-end
     loop-less
     loop-again
-    array-read-good
-    array-read-good-2
-    array-read-good-3
+    sound-requires
     sub-size
     returns
     returns-2)
