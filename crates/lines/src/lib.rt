@@ -10,3 +10,4 @@ pub use line::put_open;
 pub use line::put_replayed;
 pub use outcome::Outcome;
 pub use text::put_number;
+pub use text::put_numbers;

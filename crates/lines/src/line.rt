@@ -66,6 +66,7 @@ fn put_outcome(out: &mut [u8], at: usize, outcome: Outcome, words: [u64; 4]) -> 
 {
     match outcome {
         Outcome::Refused(k) => put_told(out, at, b"no", k),
+        Outcome::Taken(_) => put_told(out, at, b"no", 7),
         Outcome::Ok => put_word(out, at, b"ok"),
         Outcome::Start(n) => put_told(out, at, b"start", n),
         Outcome::End(n) => put_told(out, at, b"end", n),

@@ -1,6 +1,8 @@
-// The result that a step's line shows; the words of a read stand beside it.
+// The result of a step, of which its line shows the words of a read too, and not the session that holds the record of a write that is
+// taken.
 pub enum Outcome {
     Refused(u64),
+    Taken(u64),
     Ok,
     Start(u64),
     End(u64),

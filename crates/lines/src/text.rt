@@ -56,7 +56,8 @@ fn put_field_number(out: &mut [u8], at: usize, n: u64) -> usize
     put_number(out, at + 1, n)
 }
 
-fn put_numbers(out: &mut [u8], at: usize, ns: &[u64]) -> usize
+// A space and a number, for each.
+pub fn put_numbers(out: &mut [u8], at: usize, ns: &[u64]) -> usize
     requires { ⌜ at + 21 * length (now ns) ≤ length (now out) ⌝ }
     ensures { λ r. ⌜ Put (numbers (now (ns .entry))) at (now (out .entry)) (now (out .exit)) r ⌝ }
     ensures { λ r. ⌜ r ≤ at + 21 * length (now (ns .entry)) ⌝ }

@@ -1,158 +1,118 @@
 // A case out of packed bytes. The functions that have a `requires` are for use inside this crate.
-ghost use mathlib.Core.Path.{_≡_};
-ghost use Prim.Native.Nat.{_≤_, _<_};
-ghost use lib.ListN.{length};
+ghost use Prim.Native.Nat.{_+_, _≤_, _<_};
 
-// What stands at the start of some bytes: how many bytes it takes (0: nothing whole), and how many words it stands for, of which the first is
-// `word` and the others are 0.
+// The words of a case, and the number of bytes that it takes.
+pub struct Case {
+    pub words: [u64; 2454],
+    pub size: usize,
+}
+
+// Some of the bytes: how many they are, and how many words they stand for, of which the first is `word` and the others are 0.
 struct Token {
     size: usize,
     times: usize,
     word: u64,
 }
 
-fn wide(byte: u8) -> usize
+fn wide(byte: u8) -> u64
     ensures { λ r. ⌜ r < 256 ⌝ }
 {
-    byte as usize
+    byte as u64
 }
 
-fn no_token() -> Token
-    ensures { λ r. ⌜ r .size ≡ 0 ⌝ }
+// The input's byte i; 0 past its end.
+fn byte(input: &[u8; 65536], i: usize) -> u64
+    ensures { λ r. ⌜ r < 256 ⌝ }
 {
-    Token {
-        size: 0,
-        times: 0,
-        word: 0,
+    if i < 65536 { wide(input[i]) } else { 0 }
+}
+
+// The bytes behind the first of a token: none for a small word, the length of a run of zeros, or one to eight of a word.
+fn bytes_behind(first: u64) -> usize
+    ensures { λ r. ⌜ r < 9 ⌝ }
+{
+    if first < 247 {
+        return 0;
+    }
+    if first == 247 {
+        1
+    } else {
+        (first - 247) as usize % 9
     }
 }
 
-// The bytes s[1] to s[bytes] as a number, lowest first; of more than eight bytes the lowest eight.
-fn little(s: &[u8], bytes: usize) -> u64
-    requires { ⌜ bytes < length (now s) ⌝ }
+// The bytes behind the place `at` as a number, lowest first.
+fn little(input: &[u8; 65536], at: usize, bytes: usize) -> u64
+    requires { ⌜ (at ≤ 65536) × (bytes < 9) ⌝ }
 {
     let mut word: u64 = 0;
     let mut j = bytes;
     while 0 < j {
-        word = word % 72057594037927936 * 256 + wide(s[j]) as u64;
+        word = word % 72057594037927936 * 256 + byte(input, at + j);
         j -= 1;
     }
     word
 }
 
-// A word of one to eight bytes, behind the first.
-fn long(s: &[u8], bytes: usize) -> Token
-    ensures { λ r. ⌜ r .size ≤ length (now (s .entry)) ⌝ }
+// The token at a place.
+fn token_at(input: &[u8; 65536], at: usize) -> Token
+    requires { ⌜ at ≤ 65536 ⌝ }
+    ensures { λ r. ⌜ (0 < r .size) × (r .size ≤ 9) × (r .times < 256) ⌝ }
 {
-    if s.len() <= bytes {
-        return no_token();
-    }
-    Token {
-        size: bytes + 1,
-        times: 1,
-        word: little(s, bytes),
-    }
-}
-
-// A run of zeros, whose length is the second byte.
-fn zeros(s: &[u8]) -> Token
-    ensures { λ r. ⌜ r .size ≤ length (now (s .entry)) ⌝ }
-{
-    if s.len() < 2 {
-        return no_token();
-    }
-    Token {
-        size: 2,
-        times: wide(s[1]),
-        word: 0,
-    }
-}
-
-// The token that starts the bytes.
-fn next_token(s: &[u8]) -> Token
-    ensures { λ r. ⌜ r .size ≤ length (now (s .entry)) ⌝ }
-{
-    if s.len() == 0 {
-        return no_token();
-    }
-    let first = wide(s[0]);
-    if first < 247 {
+    let first = byte(input, at);
+    let bytes = bytes_behind(first);
+    let number = little(input, at, bytes);
+    let size = bytes + 1;
+    if first == 247 {
         return Token {
-            size: 1,
-            times: 1,
-            word: first as u64,
+            size: size,
+            times: (number % 256) as usize,
+            word: 0,
         };
     }
-    if first == 247 {
-        return zeros(s);
-    }
-    long(s, first - 247)
-}
-
-fn clear(words: &mut [u64]) {
-    let mut i: usize = 0;
-    while i < words.len() {
-        words[i] = 0;
-        i += 1;
+    Token {
+        size: size,
+        times: 1,
+        word: if first < 247 { first } else { number },
     }
 }
 
-// The length of the case's image.
-pub fn image_size(words: &[u64]) -> usize
-    requires { ⌜ length (now words) ≡ 2454 ⌝ }
-    ensures { λ r. ⌜ r ≤ 1800 ⌝ }
+// A size that is at most `most`, or else 0.
+pub fn within(size: u64, most: usize) -> usize
+    ensures { λ r. ⌜ r ≤ most ⌝ }
 {
-    let size = words[10];
-    if size <= 1800 { size as usize } else { 0 }
+    if size <= most as u64 {
+        size as usize
+    } else {
+        0
+    }
 }
 
-// The length of the case's strip.
-pub fn strip_size(words: &[u64]) -> usize
-    requires { ⌜ length (now words) ≡ 2454 ⌝ }
-    ensures { λ r. ⌜ r ≤ 64 ⌝ }
-{
-    let size = words[9];
-    if size <= 64 { size as usize } else { 0 }
-}
-
-// Whether the call is known and the lengths are within their bounds.
-fn sound(words: &[u64]) -> bool
-    requires { ⌜ length (now words) ≡ 2454 ⌝ }
-{
+// Whether the call is known and the lengths of the trace and the image are within their bounds.
+fn sound(words: [u64; 2454]) -> bool {
     (words[0] <= 10) & (words[9] <= 64) & (words[10] <= 1800)
 }
 
-// Puts the words of the case that starts the bytes, over zeros, and answers how many bytes it takes; 0 where there is no whole case.
-fn put_words(words: &mut [u64], s: &[u8]) -> usize
-    requires { ⌜ length (now words) ≡ 2454 ⌝ }
-    ensures { λ r. ⌜ r ≤ length (now (s .entry)) ⌝ }
+// Unpacks the case at a place of the input held; its size is 0 where there is no whole case, or one that is out of bounds.
+pub fn unpack(input: &[u8; 65536], from: usize, have: usize) -> Case
+    requires { ⌜ (from ≤ have) × (have ≤ 65536) ⌝ }
+    ensures { λ r. ⌜ from + r .size ≤ have ⌝ }
 {
+    let mut words: [u64; 2454] = [0; 2454];
     let mut n: usize = 0;
     let mut end: usize = 654;
-    let mut at: usize = 0;
-    while n < end {
-        let t = next_token(&s[at..]);
-        let times = t.times;
-        if t.size == 0 {
-            return 0;
-        }
-        if end - n < times {
-            return 0;
-        }
+    let mut at = from;
+    while n < end && at < have {
+        let t = token_at(input, at);
         words[n] = t.word;
-        n += times;
+        n += t.times;
         at += t.size;
-        end = 654 + image_size(words);
+        end = 654 + within(words[10], 1800);
     }
-    at
-}
-
-// Unpacks the case that starts the bytes and answers how many bytes it takes; 0 where there is no whole case, or one that is out of bounds.
-pub fn unpack(words: &mut [u64], s: &[u8]) -> usize
-    requires { ⌜ length (now words) ≡ 2454 ⌝ }
-    ensures { λ r. ⌜ r ≤ length (now (s .entry)) ⌝ }
-{
-    clear(words);
-    let size = put_words(words, s);
-    if sound(words) { size } else { 0 }
+    let good = (n == end) & sound(words);
+    let size = if good && at <= have { at - from } else { 0 };
+    Case {
+        words: words,
+        size: size,
+    }
 }

@@ -1,5 +1,5 @@
 -- A step applied to an opened store (document 01, "The program"): the session call that the step names, its answer as the result that the
--- step's line shows, and the entries that it lists. A write that another session stops shows its number, 7, and not the holder.
+-- step's line shows, and the entries that it lists. A write that another session stops names the holder, which the line does not show.
 use Prim.Native.Nat.{ℕ}
 use mathlib.Core.List.{List, []}
 use Rattle.layout.specs.Entries.{Entry}
@@ -23,7 +23,7 @@ use Rattle.snapshot.specs.declared.reading.ReadAnswer.{ReadAnswer}
 use Rattle.snapshot.specs.declared.reading.ReadAnswer.the-variants.{Refused as ReadRefused, Own as OwnRead, Copy as CopyRead}
 use Rattle.snapshot.specs.declared.reading.ReadAnswer.the-variants.{Home as HomeRead}
 use Rattle.snapshot.specs.declared.writing.WriteAnswer.{WriteAnswer}
-use Rattle.snapshot.specs.declared.writing.WriteAnswer.the-variants.{Refused as WriteRefused, Taken, Ok as Written}
+use Rattle.snapshot.specs.declared.writing.WriteAnswer.the-variants.{Refused as WriteRefused, Taken as TakenBy, Ok as Written}
 use Rattle.commit.specs.declared.finishing.FinishAnswer.{FinishAnswer}
 use Rattle.commit.specs.declared.finishing.FinishAnswer.the-variants.{Refused as FinishRefused, Empty as FinishedEmpty, Sealed as SealedAt}
 use Rattle.commit.specs.declared.settling.SettleAnswer.{SettleAnswer}
@@ -34,7 +34,8 @@ use Rattle.commit.specs.declared.reclaiming.ReclaimAnswer.the-variants.{Cleared
 use Rattle.codec.specs.declared.step.Step.{Step}
 use Rattle.codec.specs.declared.step.Step.the-variants.{Lay, Begin, Read, Write, Finish, Publish, Settle, Reclaim, Abandon, Cut}
 use Rattle.lines.specs.declared.outcome.Outcome.{Outcome}
-use Rattle.lines.specs.declared.outcome.Outcome.the-variants.{Refused, Ok, Start, End, Sealed, Empty, Own, Copy, Home, Wait, None, Held}
+use Rattle.lines.specs.declared.outcome.Outcome.the-variants.{Refused, Taken, Ok, Start, End, Sealed, Empty, Own, Copy, Home, Wait, None}
+use Rattle.lines.specs.declared.outcome.Outcome.the-variants.{Held}
 use Rattle.lines.specs.declared.outcome.Outcome.the-variants.{Cleared, Noted}
 use Rattle.steps.specs.declared.applying.Applied.{Applied}
 
@@ -51,7 +52,7 @@ readOutcome HomeRead = Home
 
 abbrev pub writeOutcome : WriteAnswer → Outcome
 writeOutcome (WriteRefused k) = Refused k
-writeOutcome (Taken t) = Refused 7
+writeOutcome (TakenBy t) = Taken t
 writeOutcome Written = Ok
 
 abbrev pub finishOutcome : FinishAnswer → Outcome

@@ -55,7 +55,7 @@ fn write_outcome(a: WriteAnswer) -> Outcome
 {
     match a {
         WriteAnswer::Refused(k) => Outcome::Refused(k),
-        WriteAnswer::Taken(_) => Outcome::Refused(7),
+        WriteAnswer::Taken(t) => Outcome::Taken(t),
         WriteAnswer::Ok => Outcome::Ok,
     }
 }

@@ -10,7 +10,8 @@ ghost use Rattle.lines.specs.Result.{stepLine, badLine, replayedLine, openLine}
 ghost use Rattle.codec.specs.Steps.{noWords};
 ghost use Rattle.codec.specs.declared.step.Step.the-variants.{Lay};
 ghost use Rattle.turns.specs.Bounds.{Ready, Follows};
-ghost use Rattle.turns.specs.Make.{imageSize, storesB, isCutB, arrivesOf, keptOf, shownOf, notedOf, toldOf, badOf, replayedOf, recoveredOf};
+ghost use Rattle.turns.specs.Make.{imageSize, storesB, isCutB, arrivesOf, keptOf, shownOf, notedOf, toldOf, badOf, replayedOf};
+ghost use Rattle.turns.specs.Make.{recoveredOf};
 ghost use Rattle.turns.specs.Make.{resumedLine, resumedOf, laying, layOutcome, laidOf, memoryOf, PutsLine};
 use crate::state::State;
 use codec::Step;

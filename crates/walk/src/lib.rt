@@ -1,5 +1,5 @@
-// A walk through a step stream. `run` is public for the programs above: it asks for a `before` at least as long as the image, that the bytes
-// said to be held fit the input buffer, and for an output with room for a line.
+// A walk through a step stream. `run` is public for the programs above: it asks for a `before` at least as long as the image, that the
+// bytes said to be held fit the input buffer, and for an output with room for a line.
 ghost use Prim.Native.Nat.{_≤_};
 ghost use lib.ListN.{length};
 ghost use Rattle.recovery.specs.Open.{openReply};

@@ -1,13 +1,13 @@
-use Prim.Native.Nat.{_≤_}
+use Prim.Native.Nat.{_≤_, _-_}
 use borrow.Author.Needs.{needs}
 use Rattle.rawcases.proofs.input.little.Statement.{statement}
 use Rattle.rawcases.proofs.input.little.Tie as tie
 
 abbrev Inv-loop : tie.InvT-loop
-Inv-loop s bytes word₀ j₀ word j = j ≤ bytes
+Inv-loop input at bytes word₀ j₀ word j = j ≤ bytes
 
 abbrev μ-loop : tie.MeasureT-loop
-μ-loop s bytes word₀ j₀ word j = j
+μ-loop input at bytes word₀ j₀ word j = j
 
 loop-holds : tie.Need-loop-holds Inv-loop μ-loop
 loop-holds c = search needs
@@ -15,11 +15,11 @@ loop-holds c = search needs
 mul-word : tie.Need-mul-word Inv-loop μ-loop
 mul-word c = search needs
 
-shared-slice-read-wide : tie.Need-shared-slice-read-wide Inv-loop μ-loop
-shared-slice-read-wide c = search needs
+add-byte : tie.Need-add-byte Inv-loop μ-loop
+add-byte c = search needs
 
-wide-requires : tie.Need-wide-requires Inv-loop μ-loop
-wide-requires c κs = search needs
+byte-requires : tie.Need-byte-requires Inv-loop μ-loop
+byte-requires c κs = search needs
 
 add-word : tie.Need-add-word Inv-loop μ-loop
 add-word c = search needs
@@ -44,8 +44,8 @@ little-spec =
     μ-loop
     loop-holds
     mul-word
-    shared-slice-read-wide
-    wide-requires
+    add-byte
+    byte-requires
     add-word
     sub-j
     loop-less

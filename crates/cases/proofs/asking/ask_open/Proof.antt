@@ -1,0 +1,18 @@
+use borrow.Author.Needs.{needs}
+use Rattle.cases.proofs.asking.ask_open.Statement.{statement}
+use Rattle.cases.proofs.asking.ask_open.Tie as tie
+
+open-requires : tie.Need-open-requires
+open-requires c κs = search needs
+
+open-told-requires : tie.Need-open-told-requires
+open-told-requires c κs = search needs
+
+gives-requires : tie.Need-gives-requires
+gives-requires c κs = search needs
+
+returns : tie.Need-returns
+returns c = rw (c .gives .ensures, (c .before) .open-told .ensures, (c .before .before .before) .«open» .ensures)
+
+pub ask-open-spec : {M : Type 1} → statement M
+ask-open-spec = tie.close (tie.spec open-requires open-told-requires gives-requires returns)

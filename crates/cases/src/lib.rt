@@ -1,0 +1,13 @@
+// Single calls for a test program: a desk out of words, a call answered by plain numbers, and digests of what it leaves.
+mod asking;
+mod desk_mixing;
+mod desk_words;
+mod mixing;
+mod told;
+
+pub use asking::Answered;
+pub use asking::Request;
+pub use asking::ask;
+pub use desk_mixing::desk_digest;
+pub use desk_words::desk_of;
+pub use mixing::digest;
