@@ -1,3 +1,4 @@
 pub mod Put
 pub mod Line
 pub mod Result
+pub mod Phrase

@@ -2,6 +2,7 @@
 // that there is room before they print a line.
 mod line;
 mod outcome;
+mod phrase;
 mod text;
 
 pub use line::put_bad;

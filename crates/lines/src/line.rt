@@ -4,9 +4,12 @@ ghost use mathlib.Core.List.{[], _∷_};
 ghost use Prim.Native.Nat.{_+_, _≤_};
 ghost use lib.ListN.{length};
 ghost use Rattle.lines.specs.Put.{Put};
-ghost use Rattle.lines.specs.Line.{resultOf, stepHead};
+ghost use Rattle.lines.specs.Line.{stepHead};
 ghost use Rattle.lines.specs.Result.{outcomeText, stepLine, badLine, replayedLine, openLine};
 use crate::outcome::Outcome;
+use crate::phrase::call_of;
+use crate::phrase::read_word;
+use crate::phrase::told_of;
 use crate::text::put_head;
 use crate::text::put_result;
 use codec::Step;
@@ -17,45 +20,12 @@ fn put_step_head(out: &mut [u8], at: usize, number: u64, step: Step) -> usize
     ensures { λ r. ⌜ Put (stepHead number step) at (now (out .entry)) (now (out .exit)) r ⌝ }
     ensures { λ r. ⌜ r ≤ at + 79 ⌝ }
 {
-    match step {
-        Step::Lay(n, m) => put_head(out, at, number, b"lay", &[n, m]),
-        Step::Begin(s) => put_head(out, at, number, b"begin", &[s]),
-        Step::Read(s, r) => put_head(out, at, number, b"read", &[s, r]),
-        Step::Write(s, r) => put_head(out, at, number, b"write", &[s, r]),
-        Step::Finish(s) => put_head(out, at, number, b"finish", &[s]),
-        Step::Publish(s) => put_head(out, at, number, b"publish", &[s]),
-        Step::Settle(s) => put_head(out, at, number, b"settle", &[s]),
-        Step::Reclaim(s) => put_head(out, at, number, b"reclaim", &[s]),
-        Step::Abandon(s) => put_head(out, at, number, b"abandon", &[s]),
-        Step::Cut(k) => put_head(out, at, number, b"cut", &[k]),
-    }
-}
-
-// A result that is a word.
-fn put_word(out: &mut [u8], at: usize, word: &[u8]) -> usize
-    requires { ⌜ (at + 118 ≤ length (now out)) × (length (now word) ≤ 16) ⌝ }
-    ensures { λ r. ⌜ Put (resultOf (now (word .entry)) [] []) at (now (out .entry)) (now (out .exit)) r ⌝ }
-    ensures { λ r. ⌜ r ≤ at + 118 ⌝ }
-{
-    put_result(out, at, word, &[], b"")
-}
-
-// A result that is a word and a number.
-fn put_told(out: &mut [u8], at: usize, word: &[u8], n: u64) -> usize
-    requires { ⌜ (at + 118 ≤ length (now out)) × (length (now word) ≤ 16) ⌝ }
-    ensures { λ r. ⌜ Put (resultOf (now (word .entry)) (n ∷ []) []) at (now (out .entry)) (now (out .exit)) r ⌝ }
-    ensures { λ r. ⌜ r ≤ at + 118 ⌝ }
-{
-    put_result(out, at, word, &[n], b"")
-}
-
-// A result that is four words and a word.
-fn put_read(out: &mut [u8], at: usize, words: [u64; 4], last: &[u8]) -> usize
-    requires { ⌜ (at + 118 ≤ length (now out)) × (length (now last) ≤ 16) ⌝ }
-    ensures { λ r. ⌜ Put (resultOf [] words (now (last .entry))) at (now (out .entry)) (now (out .exit)) r ⌝ }
-    ensures { λ r. ⌜ r ≤ at + 118 ⌝ }
-{
-    put_result(out, at, b"", &words, last)
+    let call = call_of(step);
+    let bytes = call.bytes;
+    let len = call.len;
+    let args = call.args;
+    let count = call.count;
+    put_head(out, at, number, &bytes[..len], &args[..count])
 }
 
 // The result of a step; the words are those of a read.
@@ -64,24 +34,18 @@ fn put_outcome(out: &mut [u8], at: usize, outcome: Outcome, words: [u64; 4]) -> 
     ensures { λ r. ⌜ Put (outcomeText outcome words) at (now (out .entry)) (now (out .exit)) r ⌝ }
     ensures { λ r. ⌜ r ≤ at + 118 ⌝ }
 {
-    match outcome {
-        Outcome::Refused(k) => put_told(out, at, b"no", k),
-        Outcome::Taken(_) => put_told(out, at, b"no", 7),
-        Outcome::Ok => put_word(out, at, b"ok"),
-        Outcome::Start(n) => put_told(out, at, b"start", n),
-        Outcome::End(n) => put_told(out, at, b"end", n),
-        Outcome::Sealed(n) => put_told(out, at, b"sealed", n),
-        Outcome::Empty => put_word(out, at, b"empty"),
-        Outcome::Own => put_read(out, at, words, b"own"),
-        Outcome::Copy => put_read(out, at, words, b"copy"),
-        Outcome::Home => put_read(out, at, words, b"home"),
-        Outcome::Wait(n) => put_told(out, at, b"wait", n),
-        Outcome::None => put_word(out, at, b"none"),
-        Outcome::Held(n) => put_told(out, at, b"held", n),
-        Outcome::Cleared(n) => put_told(out, at, b"cleared", n),
-        Outcome::Cut => put_word(out, at, b"cut"),
-        Outcome::Noted => at,
+    let read = read_word(outcome);
+    let last = read.bytes;
+    let read_len = read.len;
+    if read_len != 0 {
+        return put_result(out, at, b"", &words, &last[..read_len]);
     }
+    let told = told_of(outcome);
+    let bytes = told.bytes;
+    let len = told.len;
+    let values = told.args;
+    let count = told.count;
+    put_result(out, at, &bytes[..len], &values[..count], b"")
 }
 
 // A step's line.
