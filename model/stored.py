@@ -41,7 +41,7 @@ def files():
     kinds = [(kind, seed) for kind, seeds in SEEDS.items() for seed in range(1, seeds + 1)]
     with multiprocessing.Pool() as pool:
         for crate, make, cases in (("schedules", schedule, kinds), ("rawcases", raw_case, range(RAW_CASES))):
-            made = pool.map(make, cases, chunksize=8)
+            made = pool.map(make, cases, chunksize=1 if crate == "schedules" else 8)
             for i, name in enumerate(("stdin", "stdout")):
                 yield os.path.join(CRATES, crate, name), b"".join(part[i] for part in made)
 
