@@ -4,7 +4,7 @@ mod making;
 mod state;
 
 pub use making::bad;
-pub use making::lay;
+pub use making::lay_out;
 pub use making::make;
 pub use making::resume;
 pub use making::tell;

@@ -50,7 +50,7 @@ pub fn bad(output: &mut [u8], mut s: State) -> State
 }
 
 // Lays the image, which is then to be opened; refused, the walk stops.
-pub fn lay(image: &mut [u64], output: &mut [u8], mut s: State, n: u64, m: u64) -> State
+pub fn lay_out(image: &mut [u64], output: &mut [u8], mut s: State, n: u64, m: u64) -> State
     requires { ⌜ Ready s (length (now output)) (length (now image)) ⌝ }
     ensures { λ r. ⌜ Follows s r (length (now (output .entry))) (length (now (image .entry))) ⌝ }
     ensures { λ r.

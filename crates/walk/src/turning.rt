@@ -10,7 +10,7 @@ use store::Desk;
 use turns::State;
 use turns::bad;
 use turns::filled;
-use turns::lay;
+use turns::lay_out;
 use turns::make;
 use turns::opened;
 use turns::resume;
@@ -59,7 +59,7 @@ fn other_turn(
             let size = s.size;
             resume(&mut image[..size], trace, output, s)
         }
-        Turn::Lay(n, m) => lay(image, output, s, n, m),
+        Turn::Lay(n, m) => lay_out(image, output, s, n, m),
         Turn::Bad => bad(output, s),
         Turn::End => stopped(s),
         Turn::Open => s,

@@ -31,8 +31,8 @@ resume-requires c κs = search needs
 enum-known-turn : tie.Need-enum-known-turn
 enum-known-turn c = search needs
 
-lay-requires : tie.Need-lay-requires
-lay-requires c κs = search needs
+lay-out-requires : tie.Need-lay-out-requires
+lay-out-requires c κs = search needs
 
 enum-told-3 : tie.Need-enum-told-3
 enum-told-3 c = search needs
@@ -85,7 +85,7 @@ same-length-6 c = search needs
 returns-3 : tie.Need-returns-3
 returns-3 c =
     let a = (c .before .before .before .before .before .before .before .before .before .before .before .before .before .before) .args in
-    let w = (c .before .before .before .before) .lay .ensures in
+    let w = (c .before .before .before .before) .lay-out .ensures in
     (search needs, rw ((c .before .before .before .before .before .before .before .before) .turn .given .1) (nothingHeard (a .input .now), refl, refl, laid-out-by _ _ (record { memory = a .image .now; output = a .output .now; state = a .s }) (w .1 .0) (w .1 .1)))
 
 same-length-7 : tie.Need-same-length-7
@@ -117,7 +117,7 @@ other-turn-spec =
     slice-aggregate-resume
     resume-requires
     enum-known-turn
-    lay-requires
+    lay-out-requires
     enum-told-3
     bad-requires
     enum-told-4

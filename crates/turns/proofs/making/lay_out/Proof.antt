@@ -5,8 +5,8 @@ use Rattle.turns.proofs.MakeLaws.{laid-by, laid-memory}
 use mathlib.Core.Path.{sym, ap}
 use lib.Seq.{length-take-le}
 use borrow.Author.Needs.{needs}
-use Rattle.turns.proofs.making.lay.Statement.{statement}
-use Rattle.turns.proofs.making.lay.Tie as tie
+use Rattle.turns.proofs.making.lay_out.Statement.{statement}
+use Rattle.turns.proofs.making.lay_out.Tie as tie
 
 image-size-requires : tie.Need-image-size-requires
 image-size-requires c κs = search needs
@@ -60,8 +60,8 @@ returns-2 c =
     let e = laid-by (a .image .now) (a .n) (a .m) size (w .0) ((c .before .before .before .before) .enum-told .given .1) in
     (search needs, ((rw e ((c .before .before) .put-line2 .ensures .0), rw e (ap (λ (k : ℕ). laidOf (a .s) k Laid ((c .before .before) .put-line2 .result)) size)), laid-memory (a .image .now) (a .n) (a .m) size (w .1)))
 
-pub lay-spec : {M : Type 1} → statement M
-lay-spec =
+pub lay-out-spec : {M : Type 1} → statement M
+lay-out-spec =
     tie.close
     (tie.spec
     image-size-requires
