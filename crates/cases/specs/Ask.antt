@@ -4,39 +4,66 @@ use mathlib.Core.List.{List}
 use lib.ListN.{length}
 use Rattle.layout.specs.Entries.{made, listed}
 use Rattle.layout.specs.Lay.{layAnswer, laidImage}
+use Rattle.layout.specs.Told.{layTold}
+use Rattle.desk.specs.Begin.{beginReply}
+use Rattle.desk.specs.Publish.{publishReply}
+use Rattle.desk.specs.Abandon.{abandonReply}
+use Rattle.desk.specs.Told.{beginTold, publishTold, abandonTold}
 use Rattle.desk.specs.declared.state.Desk.{Desk}
 use Rattle.snapshot.specs.Own.{zeroWords}
+use Rattle.snapshot.specs.Read.{readReply}
+use Rattle.snapshot.specs.Write.{writeReply}
+use Rattle.snapshot.specs.Told.{readTold, writeTold}
+use Rattle.commit.specs.Finish.{finishReply}
+use Rattle.commit.specs.Settle.{settleReply}
+use Rattle.commit.specs.Reclaim.{reclaimReply}
+use Rattle.commit.specs.Told.{finishTold, settleTold, reclaimTold}
 use Rattle.recovery.specs.Open.{openReply}
 use Rattle.recovery.specs.Recover.{recoverReply, recoverEntries}
+use Rattle.recovery.specs.Told.{openTold, recoverTold}
 use Rattle.codec.specs.declared.step.Step.{Step}
+use Rattle.codec.specs.declared.step.Step.the-variants.{Lay as LayStep, Begin, Read, Write, Finish, Publish, Settle, Reclaim, Abandon, Cut}
 use Rattle.steps.specs.Apply.{appliedOf, appliedEntries}
-use Rattle.cases.specs.Told.{outcomeTold, layTold, openTold, recoverTold}
-use Rattle.cases.specs.declared.told.Told.{Told}
+use Rattle.cases.specs.Coded.{coded, codedOf}
+use Rattle.cases.specs.declared.told.Coded.{Coded}
 use Rattle.cases.specs.declared.asking.Request.{Request}
 use Rattle.cases.specs.declared.asking.Request.the-variants.{Lay, Open, Recover, Session}
 use Rattle.cases.specs.declared.asking.Answered.{Answered}
 
 -- an answer as numbers, with words, a number of entries and a desk
-abbrev pub answeredOf : Told → List ℕ → ℕ → Desk → Answered
+abbrev pub answeredOf : Coded → List ℕ → ℕ → Desk → Answered
 answeredOf t ws n d = record { answer = t .answer; value = t .value; words = ws; entries = n; desk = d }
 
 -- lay leaves no desk: it is the one that was given
 abbrev pub layAnswered : List ℕ → Desk → ℕ → ℕ → Answered
-layAnswered img d n m = answeredOf (layTold (layAnswer n m img)) zeroWords 0 d
+layAnswered img d n m = answeredOf (codedOf (layTold (layAnswer n m img))) zeroWords 0 d
 
 -- open gives its desk
 abbrev pub openAnswered : List ℕ → Answered
-openAnswered img = answeredOf (openTold (openReply img .answer)) zeroWords 0 (openReply img .desk)
+openAnswered img = answeredOf (codedOf (openTold (openReply img .answer))) zeroWords 0 (openReply img .desk)
 
 -- recover leaves no desk either
 abbrev pub recoverAnswered : List ℕ → Desk → ℕ → Answered
-recoverAnswered img d len = answeredOf (recoverTold (recoverReply img len .answer)) zeroWords (recoverReply img len .entries) d
+recoverAnswered img d len = answeredOf (codedOf (recoverTold (recoverReply img len .answer))) zeroWords (recoverReply img len .entries) d
+
+-- what the session call of a step tells; a step that is none tells nothing
+abbrev pub stepCoded : List ℕ → Desk → ℕ → Step → List ℕ → Coded
+stepCoded img d len (LayStep n m) ws = coded 0 0
+stepCoded img d len (Begin s) ws = codedOf (beginTold (beginReply d s .answer))
+stepCoded img d len (Read s r) ws = codedOf (readTold (readReply img d s r .answer) (readReply img d s r .words))
+stepCoded img d len (Write s r) ws = codedOf (writeTold (writeReply img d s r ws .answer))
+stepCoded img d len (Finish s) ws = codedOf (finishTold (finishReply img d len s .answer))
+stepCoded img d len (Publish s) ws = codedOf (publishTold (publishReply d s .answer))
+stepCoded img d len (Settle s) ws = codedOf (settleTold (settleReply img d len s .answer))
+stepCoded img d len (Reclaim s) ws = codedOf (reclaimTold (reclaimReply img d len s .answer))
+stepCoded img d len (Abandon s) ws = codedOf (abandonTold (abandonReply d s .answer))
+stepCoded img d len (Cut k) ws = coded 0 0
 
 -- a session call, by its step
 abbrev pub stepAnswered : List ℕ → Desk → ℕ → Step → List ℕ → Answered
 stepAnswered img d len step ws =
     answeredOf
-    (outcomeTold (appliedOf img d len step ws .outcome))
+    (stepCoded img d len step ws)
     (appliedOf img d len step ws .words)
     (appliedOf img d len step ws .entries)
     (appliedOf img d len step ws .desk)

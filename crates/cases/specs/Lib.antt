@@ -1,4 +1,4 @@
 pub mod Digest
 pub mod Words
-pub mod Told
+pub mod Coded
 pub mod Ask

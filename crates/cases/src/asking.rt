@@ -4,7 +4,7 @@ ghost use lib.ListN.{length};
 ghost use Rattle.layout.specs.Lay.{laidImage};
 ghost use Rattle.cases.specs.Ask.{answeredOf, layAnswered, openAnswered, recoverAnswered, stepAnswered};
 ghost use Rattle.cases.specs.Ask.{recoverImage, recoverTrace, stepImage, stepTrace, askedOf, askedImage, askedTrace};
-use crate::told::Told;
+use crate::told::Coded;
 use crate::told::lay_told;
 use crate::told::open_told;
 use crate::told::outcome_told;
@@ -29,7 +29,7 @@ pub struct Answered {
     pub desk: Desk,
 }
 
-fn gives(t: Told, words: [u64; 4], entries: u64, desk: Desk) -> Answered
+fn gives(t: Coded, words: [u64; 4], entries: u64, desk: Desk) -> Answered
     ensures { λ r. ⌜ r ≡ answeredOf t words entries desk ⌝ }
 {
     Answered {

@@ -1,33 +1,34 @@
 // Answers as numbers: the refusal's number, or 20 ok, 21 start, 22 own, 23 copy, 24 home, 25 empty, 26 sealed, 27 end, 28 wait, 29 none,
 // 30 held, 31 cleared, 32 clean, 33 replayed.
 ghost use mathlib.Core.Path.{_≡_};
-ghost use Rattle.cases.specs.Told.{told, outcomeTold, layTold, openTold, recoverTold};
+ghost use Rattle.layout.specs.Told.{layTold};
+ghost use Rattle.recovery.specs.Told.{openTold, recoverTold};
+ghost use Rattle.cases.specs.Coded.{coded, codedOf, outcomeCoded};
 use lines::Outcome;
 use store::LayAnswer;
 use store::OpenAnswer;
 use store::RecoverAnswer;
 
 // The value is 0 where the answer has none.
-pub struct Told {
+pub struct Coded {
     pub answer: u64,
     pub value: u64,
 }
 
-fn answers(answer: u64, value: u64) -> Told
-    ensures { λ r. ⌜ r ≡ told answer value ⌝ }
+fn answers(answer: u64, value: u64) -> Coded
+    ensures { λ r. ⌜ r ≡ coded answer value ⌝ }
 {
-    Told {
+    Coded {
         answer: answer,
         value: value,
     }
 }
 
-pub fn outcome_told(o: Outcome) -> Told
-    ensures { λ r. ⌜ r ≡ outcomeTold o ⌝ }
+pub fn outcome_told(o: Outcome) -> Coded
+    ensures { λ r. ⌜ r ≡ outcomeCoded o ⌝ }
 {
     match o {
-        Outcome::Refused(k) => answers(k, 0),
-        Outcome::Taken(holder) => answers(7, holder),
+        Outcome::Refused(k, value) => answers(k, value),
         Outcome::Ok => answers(20, 0),
         Outcome::Start(start) => answers(21, start),
         Outcome::End(end) => answers(27, end),
@@ -45,8 +46,8 @@ pub fn outcome_told(o: Outcome) -> Told
     }
 }
 
-pub fn lay_told(a: LayAnswer) -> Told
-    ensures { λ r. ⌜ r ≡ layTold a ⌝ }
+pub fn lay_told(a: LayAnswer) -> Coded
+    ensures { λ r. ⌜ r ≡ codedOf (layTold a) ⌝ }
 {
     match a {
         LayAnswer::Refused(k) => answers(k, 0),
@@ -54,8 +55,8 @@ pub fn lay_told(a: LayAnswer) -> Told
     }
 }
 
-pub fn open_told(a: OpenAnswer) -> Told
-    ensures { λ r. ⌜ r ≡ openTold a ⌝ }
+pub fn open_told(a: OpenAnswer) -> Coded
+    ensures { λ r. ⌜ r ≡ codedOf (openTold a) ⌝ }
 {
     match a {
         OpenAnswer::Refused(k) => answers(k, 0),
@@ -63,8 +64,8 @@ pub fn open_told(a: OpenAnswer) -> Told
     }
 }
 
-pub fn recover_told(a: RecoverAnswer) -> Told
-    ensures { λ r. ⌜ r ≡ recoverTold a ⌝ }
+pub fn recover_told(a: RecoverAnswer) -> Coded
+    ensures { λ r. ⌜ r ≡ codedOf (recoverTold a) ⌝ }
 {
     match a {
         RecoverAnswer::Refused(k) => answers(k, 0),

@@ -24,7 +24,7 @@ use Rattle.desk.specs.Coherent.{placeHas}
 use Rattle.desk.proofs.Facts.{Copies, CountIn, Coherent}
 use Rattle.snapshot.specs.Own.{ownPlace}
 use Rattle.snapshot.proofs.OwnPlace.{own-found}
-use Rattle.history.specs.Desk.{Copy, find, put, Session as Txn, idle, active, sealed, published, copies, Desk as Txns, upd, with-session, found, firstOf, holder}
+use Rattle.history.specs.Desk.{Copy, find, put, Session as Txn, idle, active, sealed, published, copies, Desk as Txns, upd, withSession, found, firstOf, holder}
 use Rattle.history.proofs.Copies.{Mem, Fresh, Found, find?, upd-same, upd-other, Lowest, firstOf?}
 
 -- the first k copy places, as a list of copies
@@ -51,7 +51,7 @@ abs d = record { clock = d .clock; session = λ t. pack (sessionAt d t) }
 
 -- a session put in the array is a session put
 pub abs-put : (d : Desk) (clock n m s : ℕ) (e : Session) (hs : List ℕ) → s < length (d .sessions)
-    → abs (record { clock = clock; n = n; m = m; holders = hs; sessions = set (d .sessions) s e }) ≡ with-session s (pack e) (record { clock = clock; session = abs d .session })
+    → abs (record { clock = clock; n = n; m = m; holders = hs; sessions = set (d .sessions) s e }) ≡ withSession s (pack e) (record { clock = clock; session = abs d .session })
 abs-put d clock n m s e hs l = ap (λ (f : ℕ → Txn). record { clock = clock; session = f }) (fun-ext (λ t. go t (ℕ-discrete t s)))
   where
     go : (t : ℕ) → Dec (t ≡ s) → pack (getD (set (d .sessions) s e) t noSession) ≡ upd s (pack e) (λ u. pack (sessionAt d u)) t
@@ -100,7 +100,7 @@ front-put r k ws ps l f = front-more k _ ps l ∙ sym (put-fresh r ws (front k p
 -- ---- the place of a record
 
 -- the lowest number that passes a test passes it, and no number below does
-lowest-is : (p : ℕ → Bool) (n : ℕ) → lowest n p < n → (p (lowest n p) ≡ true) × ((i : ℕ) → i < lowest n p → p i ≡ false)
+pub lowest-is : (p : ℕ → Bool) (n : ℕ) → lowest n p < n → (p (lowest n p) ≡ true) × ((i : ℕ) → i < lowest n p → p i ≡ false)
 unfolding lowest
 lowest-is p zero l = absurd (omega arith)
 lowest-is p (suc n) l = go (ltb (lowest n p) n) refl (p n) refl l (lowest-is p n)

@@ -15,7 +15,7 @@ use Rattle.desk.specs.declared.state.Session.{Session}
 use Rattle.history.specs.Desk.{Copy, writes, flat}
 use Rattle.history.specs.Batch.{laid}
 use Rattle.history.specs.Batch.{batch}
-use Rattle.history.specs.Calls.{log-words}
+use Rattle.history.specs.Due.{logWords}
 use Rattle.claims.proofs.Abstraction.{front, copiesOf, length-front}
 
 -- the record and the words of place k
@@ -95,7 +95,7 @@ body-front b c (suc k) ps l =
 
 -- the log of a session's copies, in a slot at b
 pub log-copies : (b n : ℕ) (e : Session) → e .count ≤ length (e .copies)
-    → shift b (logEntries n (copiedRec e) (copiedWords e) (e .count)) ≡ batch (laid (b + 1) (log-words (copiesOf e))) b n
+    → shift b (logEntries n (copiedRec e) (copiedWords e) (e .count)) ≡ batch (laid (b + 1) (logWords (copiesOf e))) b n
 log-copies b n e l =
     shift-append b (stores (bodyWrites (copiedRec e) (copiedWords e) (e .count) (e .count))) _
     ∙ rw (body-front b (e .count) (e .count) (e .copies) l, add-zero b, length-front (e .count) (e .copies)) refl

@@ -1,178 +1,118 @@
 -- Wherever power fails, recovery ends clean with the history's records.
-use Prim.Native.Nat.{ℕ, _-_, _*_, _/_, _%_, _<_}
+use Prim.Native.Nat.{ℕ, _-_, _*_, _/_, _%_, _≤_, _<_}
 use mathlib.Core.Path.{_≡_, refl, sym, ap, _∙_, subst}
-use mathlib.Core.Logic.{_⊎_, inl, inr, ⊎-elim}
-use mathlib.Core.Bool.{Bool, true, false, cond}
-use mathlib.Core.List.{List}
+use mathlib.Core.Bool.{Bool, not, true, false}
+use mathlib.Core.List.{List, [], _∷_, _++_}
 use native.Mathlib.Omega.{arith}
-use native.Mathlib.Nat.{le-refl}
-use native.Mathlib.Decide.{decLt}
-use lib.Dec.{eqb}
-use lib.ListN.{getD, List·getD-eq-default}
-use lib.Seq.{take-nil}
-use Rattle.layout.specs.Below.{countBelow}
+use native.Mathlib.Nat.{le-refl, add-zero}
+use lib.ListN.{getD}
+use borrow.Author.Tests.{eq-eqb}
+use Rattle.layout.specs.Below.{anyBelow}
+use Rattle.layout.specs.Checks.{unless, first, answered}
 use Rattle.layout.specs.Crash.{crashed as crash}
-use Rattle.layout.specs.Entries.{Entry}
-use Rattle.layout.specs.Image.{homeAt, homeWords, occupiedAt}
-use Rattle.desk.specs.Desk.{noSession, sessionAt}
-use Rattle.desk.specs.declared.state.Phase.{Phase}
-use Rattle.desk.specs.declared.state.Phase.the-variants.{Idle, Active, Sealed as SealedPhase, Published}
-use Rattle.desk.specs.declared.state.Session.{Session}
-use Rattle.desk.proofs.Facts.{CountIn, SessionIn}
+use Rattle.layout.specs.Entries.{made}
+use Rattle.layout.specs.Image.{recordsOf, sessionsOf, homeWords, slotAt, persistAt, occupiedAt, occupiedB}
+use Rattle.layout.specs.Told.{Told, ok, clean}
+use Rattle.layout.proofs.Says.{says-ne, says-any, says-not}
+use Rattle.recovery.specs.Open.{openFault, openReply}
 use Rattle.recovery.specs.Recover.{recoverEntries}
-use Rattle.commit.specs.Finish.{finishReply}
-use Rattle.commit.specs.declared.finishing.FinishAnswer.{FinishAnswer}
-use Rattle.commit.specs.declared.finishing.FinishAnswer.the-variants.{Refused as FinishRefused, Empty, Sealed}
-use Rattle.history.specs.Log.{Final}
+use Rattle.history.specs.Call.{Call}
+use Rattle.history.specs.Cut.{feedCut}
+use Rattle.history.specs.Desk.{spot}
+use Rattle.history.specs.Due.{fourWords, due}
+use Rattle.history.specs.History.{History, recordOf}
 use Rattle.history.specs.Layout.{Home, view}
-use Rattle.history.specs.Desk.{spot, Desk as Txns}
-use Rattle.history.specs.Calls.{Reply, reply}
-use Rattle.history.specs.History.{last, sealing as sealing′, History as Past}
-use Rattle.history.specs.Run.{slot-of, number-arrived, crash-finish, crash-feed}
-use Rattle.history.proofs.Kept.{Crashed, crashed, Done, done}
-use Rattle.claims.specs.Call.{Call, begin, read, write, abandon, finish, publish, settle, reclaim, finished}
-use Rattle.claims.specs.History.{History, recordOf, sealing}
-use Rattle.history.specs.Ledger.{fourWords}
+use Rattle.history.specs.Log.{Final, Clean, busy}
+use Rattle.history.proofs.Abstract.{final-clean}
+use Rattle.history.proofs.Calls.{due-done}
+use Rattle.history.proofs.Kept.{Crashed, crashed}
+use Rattle.history.proofs.ReadDue.{four-words}
 use Rattle.claims.specs.Rules.{storeRules}
-use Rattle.claims.specs.Run.{World, event, entries}
-use Rattle.claims.specs.Recovery.{Try, afterTries, afterEnded}
-use Rattle.claims.specs.Demands.{numberArrived, cutFinish, cutIn}
-use Rattle.claims.proofs.Abstraction.{abs, pack}
-use Rattle.claims.proofs.Simulation.{finish-said}
-use Rattle.claims.proofs.SameHistory.{past, said, feed-same, record-same}
-use Rattle.claims.proofs.Recovering.{Whole, Recovered, recovered}
+use Rattle.claims.specs.Run.{World, reply}
+use Rattle.claims.specs.Recovery.{Attempt, afterCalls, afterStop, afterAttempts, Ends}
+use Rattle.claims.specs.Demands.{Recovered}
+use Rattle.claims.proofs.Along.{Along, same}
+use Rattle.claims.proofs.Recovering.{Whole, Follows, clean-told, calls-follow, stop-made, calls-more, attempts-follow, ends}
 use Rattle.claims.proofs.ReadyKept.{whole-again, whole-of}
-use Rattle.claims.proofs.Along.{op, Roomy, Nothing, Short, Along, same, room}
 
--- the reserved slot of a session in order, abstractly
-slot-same : (clock n : ℕ) (e : Session) → SessionIn clock n e → slot-of (pack e) ≡ e .slot
-slot-same clock n e h = go (e .phase) (h .count) refl
-  where
-    go : (p : Phase) → CountIn p (e .count) → e .phase ≡ p → slot-of (pack e) ≡ e .slot
-    go Idle c q = rw q (sym (⊎-elim (λ l. absurd (omega (arith, l, c))) (λ z. z) (h .slot-none)))
-    go (Active b) c q = rw q refl
-    go (SealedPhase k) c q = rw q refl
-    go (Published f) c q = rw q refl
-
--- ---- what a cut leaves
-
--- the image and the history that a cut leaves
+-- what a cut leaves
 pub record Left (N M : ℕ) (img : List ℕ) (h : History) : Type 0 where
   pub whole : Whole N M img
-  pub left : Crashed N M img (past h)
+  pub left : Crashed N M img h
 
-refused-same : {s : ℕ} {x : FinishAnswer} → finished s x ≡ finished s (FinishRefused 3) → x ≡ FinishRefused 3
-refused-same e = cc
+-- nothing is stored
+pub uncut : (N M : ℕ) (w : World) → Along N M w → Left N M (w .image) (w .ledger .history)
+uncut N M w a =
+    record { whole = whole-of N M (w .image) (w .desk) (a .ready); left = crashed N M (w .image) (w .ledger .desk) (w .ledger .history) (a .held .holds) }
 
-module _ (N M : ℕ) (w : World) (a : Along N M w) where
-  -- the slot that a session has reserved
-  slot-at : (s : ℕ) → slot-of (pack (sessionAt (w .desk) s)) ≡ sessionAt (w .desk) s .slot
-  slot-at s = elim (decLt s 16) [ yes l ↦ slot-same _ _ (sessionAt (w .desk) s) (a .ready .coherent .session s l) | no n ↦ rw (List·getD-eq-default (w .desk .sessions) noSession {n = s} (omega (arith, a .ready .sessions-long))) refl ]
+-- a cut in a call
+module _ (N M : ℕ) (w : World) (a : Along N M w) (c : Call) (k : ℕ) (sel : ℕ → Bool) where
+  abbrev cut-image : List ℕ
+  cut-image = crash k sel (reply storeRules w c .entries) (w .image)
 
-  arrived-same : (s n : ℕ) (img : List ℕ) → number-arrived N (abs (w .desk)) s n img ≡ numberArrived w s n img
-  arrived-same s n img =
-      let q : slot-of (pack (sessionAt (w .desk) s)) ≡ sessionAt (w .desk) s .slot = slot-at s in
-      ap (λ i. eqb (getD img i 0) n) (omega (arith, a .ready .n-same))
-
-  -- a finish at the cut counts when its persist number has arrived
-  finish-cut : (s : ℕ) (x : FinishAnswer) (img : List ℕ) → crash-finish N (abs (w .desk)) s (finish-said x) img (past (w .ledger .history)) ≡ past (cutFinish w s x img)
-  finish-cut s (FinishRefused k) img = refl
-  finish-cut s Empty img = refl
-  finish-cut s (Sealed n) img = rw (arrived-same s n img) (go (numberArrived w s n img))
+  pub cut-left : Left N M cut-image (feedCut N (w .ledger .desk) c (reply storeRules w c .told) cut-image (w .ledger .history))
+  cut-left = record { whole = whole-again N M (w .image) _ (whole-of N M (w .image) (w .desk) (a .ready)) low (there .good .whole); left = there }
     where
-      go : (b : Bool) → cond b (sealing′ s (past (w .ledger .history))) (past (w .ledger .history)) ≡ past (cond b (sealing s (w .ledger .history)) (w .ledger .history))
-      go true = sym (feed-same (finished s (Sealed n)) (w .ledger .history))
-      go false = refl
+      there : Crashed N M cut-image (feedCut N (w .ledger .desk) c (reply storeRules w c .told) cut-image (w .ledger .history))
+      there = rw (same N M w a c .stored, same N M w a c .answers) (due-done N M (w .image) (w .ledger) (a .held) c .broken k sel)
 
-  history-cut : (c : Call) (img : List ℕ) → crash-feed N (abs (w .desk)) (op c) (said (event storeRules w c)) img (past (w .ledger .history)) ≡ past (cutIn storeRules w c img)
-  unfolding event
-  history-cut (begin s) img = refl
-  history-cut (read s r) img = refl
-  history-cut (write s r ws) img = refl
-  history-cut (abandon s) img = refl
-  history-cut (finish len s) img = finish-cut s (finishReply (w .image) (w .desk) len s .answer) img
-  history-cut (publish s) img = refl
-  history-cut (settle len s) img = refl
-  history-cut (reclaim len s) img = refl
+      low : (j : ℕ) → j < 4 → getD cut-image j 0 ≡ getD (w .image) j 0
+      low j l = rw (same N M w a c .stored) (due-done N M (w .image) (w .ledger) (a .held) c .low-cut k sel j l)
 
-  -- a call that is refused for its trace is no step either
-  nothing-cut : (c : Call) (img : List ℕ) → Short c (event storeRules w c) → cutIn storeRules w c img ≡ w .ledger .history
-  unfolding event
-  nothing-cut (begin s) img e = absurd e
-  nothing-cut (read s r) img e = absurd e
-  nothing-cut (write s r ws) img e = absurd e
-  nothing-cut (abandon s) img e = absurd e
-  nothing-cut (finish len s) img e = let q : finishReply (w .image) (w .desk) len s .answer ≡ FinishRefused 3 = refused-same (e .1) in rw q refl
-  nothing-cut (publish s) img e = absurd e
-  nothing-cut (settle len s) img e = refl
-  nothing-cut (reclaim len s) img e = refl
+-- ---- an image with empty slots
 
-  -- cut between calls
-  pub uncut : Left N M (w .image) (w .ledger .history)
-  uncut = record { whole = whole-of N M (w .image) (w .desk) (a .ready); left = crashed N M (w .image) (abs (w .desk)) (past (w .ledger .history)) (a .held) }
-
-  -- cut in call c
-  pub cut-left : (c : Call) (k : ℕ) (sel : ℕ → Bool) → Left N M (crash k sel (entries storeRules w c) (w .image)) (cutIn storeRules w c (crash k sel (entries storeRules w c) (w .image)))
-  cut-left c k sel = go (room N M w (a .ready) c)
+module _ (N M : ℕ) (img : List ℕ) (w : Whole N M img) (c : Clean (2 * M) (view N img)) where
+  -- opens
+  clean-opens : storeRules .opens img .told ≡ ok
+  unfolding openReply openFault answered first occupiedB
+  clean-opens = rw (w .shaped, none) refl
     where
-      d : Txns
-      d = abs (w .desk)
+      none : anyBelow (2 * sessionsOf img) (occupiedAt img (recordsOf img)) ≡ false
+      none =
+          says-not (says-any (2 * sessionsOf img) (λ p. says-ne (persistAt img (recordsOf img) p) 0))
+          (rw (w .records, w .sessions) (λ t. t .2 (rw (add-zero (slotAt N (t .0))) (c (t .0) (t .1)))))
 
-      h : Past
-      h = past (w .ledger .history)
-
-      y : Reply
-      y = reply N M (w .image) d (op c)
-
-      img : List ℕ
-      img = crash k sel (entries storeRules w c) (w .image)
-
-      D : Done N M (w .image) d h (op c) y
-      D = done N M (w .image) d h (a .held) (op c)
-
-      go : Roomy c ⊎ Nothing w c → Left N M (crash k sel (entries storeRules w c) (w .image)) (cutIn storeRules w c (crash k sel (entries storeRules w c) (w .image)))
-      go (inl l) =
-          let sim = same N M w c (a .ready) l in
-          let crash-said = subst (λ x. Crashed N M (crash k sel (y .entries) (w .image)) (crash-feed N d (op c) x (crash k sel (y .entries) (w .image)) h)) (sym (sim .answers)) (D .broken k sel) in
-          let crash-stored = subst (λ es. Crashed N M (crash k sel es (w .image)) (crash-feed N d (op c) (said (event storeRules w c)) (crash k sel es (w .image)) h)) (sym (sim .stored)) crash-said in
-          let left : Crashed N M img (past (cutIn storeRules w c img)) = subst (Crashed N M img) (history-cut c img) crash-stored in
-          record {
-            whole = whole-again N M (w .image) img (whole-of N M (w .image) (w .desk) (a .ready)) (λ j lj. rw (sim .stored) (D .low-cut k sel j lj)) (left .good .whole);
-            left = left;
-          }
-      go (inr n) = rw (nothing-cut c img (n .short), n .no-entries, take-nil {A = Entry} k) uncut
+  -- and has the history's words at home
+  clean-records : (h : History) → ((r j : ℕ) → r < N → j < 4 → Final (2 * M) (view N img) (spot r j) (getD (recordOf h r) j 0))
+      → (r : ℕ) → r < N → homeWords img r ≡ fourWords (recordOf h r)
+  clean-records h f r l = four-words img r (recordOf h r) (λ j lj. final-clean (2 * M) (view N img) c (spot r j) _ (f r j l lj))
 
 -- ---- recovery
 
--- word j of a record that stands at home
-four-words : (img : List ℕ) (r : ℕ) (ws : List ℕ) → ((j : ℕ) → j < 4 → getD img (spot r j) 0 ≡ getD ws j 0) → homeWords img r ≡ fourWords ws
-four-words img r ws f =
-    let e : spot r 0 ≡ homeAt r = omega arith in
-    let a : getD img (homeAt r) 0 ≡ getD ws 0 0 = rw e at (f 0 (omega arith)) in
-    rw (a, f 1 (omega arith), f 2 (omega arith), f 3 (omega arith)) refl
+module _ (N M : ℕ) (first : List ℕ) (h : History) (n-same : recordsOf first ≡ N) (m-same : sessionsOf first ≡ M) where
+  -- an image that recover calls clean, with these final words, is recovered
+  recovered : (img : List ℕ) → Whole N M img → Clean (2 * M) (view N img)
+      → ((r j : ℕ) → r < N → j < 4 → Final (2 * M) (view N img) (spot r j) (getD (recordOf h r) j 0)) → Recovered storeRules first h img
+  recovered img w c f =
+      record {
+        opens = clean-opens N M img w c;
+        n-same = w .records ∙ sym n-same;
+        m-same = w .sessions ∙ sym m-same;
+        records = λ r l. clean-records N M img w c h f r (rw n-same at l);
+      }
 
--- after any calls of recover, and as many whole ones as there are occupied slots, every record is the history's
-module _ (N M : ℕ) (img : List ℕ) (h : History) (w : Whole N M img) (c : Crashed N M img (past h)) (tries : List Try) (x : ℕ → ℕ) where
-  -- the word of the history for a home index
-  abbrev pub home-of : ℕ → ℕ
-  home-of i = getD (last (past h) ((i - 4) / 4)) ((i - 4) % 4) 0
+  module _ (img : List ℕ) (l : Left N M img h) (attempts : List Attempt) where
+    abbrev tried : List ℕ
+    tried = afterAttempts storeRules attempts img
 
-  back : (r j : ℕ) → j < 4 → home-of (spot r j) ≡ getD (last (past h) r) j 0
-  back r j l =
-      let a : (spot r j - 4) / 4 ≡ r = omega arith in
-      let b : (spot r j - 4) % 4 ≡ j = omega arith in
-      rw (a, b) refl
+    after : Follows N M img tried
+    after = attempts-follow N M attempts img (l .whole) (l .left .good)
 
-  finals : (i : ℕ) → Home N i → Final (2 * M) (view N img) i (home-of i)
-  finals i hi =
-      let e : spot ((i - 4) / 4) ((i - 4) % 4) ≡ i = omega arith in
-      rw e at (c .final ((i - 4) / 4) ((i - 4) % 4) (omega arith) (omega arith))
+    -- the caller repeats until clean
+    pub tried-ends : (x : ℕ → ℕ) → Ends storeRules x tried
+    tried-ends x = ends (busy (view N tried .number) (2 * M)) N M x tried (after .whole) (after .carries .good) (le-refl _)
 
-  abbrev pub tried : List ℕ
-  tried = afterTries recoverEntries tries img
-
-  pub ends : Recovered N M home-of (afterEnded recoverEntries x (countBelow (2 * M) (occupiedAt tried N)) tried)
-  ends = recovered N M img home-of w (c .good) finals tries x (countBelow (2 * M) (occupiedAt tried N)) (le-refl _)
-
-  pub ends-records : (r : ℕ) → r < N → homeWords (afterEnded recoverEntries x (countBelow (2 * M) (occupiedAt tried N)) tried) r ≡ fourWords (recordOf h r)
-  ends-records r l = rw (record-same h r) (four-words (afterEnded recoverEntries x (countBelow (2 * M) (occupiedAt tried N)) tried) r (last (past h) r) (λ j lj. ends .words (spot r j) (omega arith) ∙ back r j lj))
+    -- whenever recover answers "clean" the image is recovered
+    pub tried-clean : (whole : List ℕ) (last : ℕ) (sel : ℕ → Bool) → storeRules .recover (afterCalls storeRules whole tried) last .told ≡ clean
+        → Recovered storeRules first h (afterStop storeRules (whole ++ (last ∷ [])) sel tried)
+    tried-clean whole last sel e =
+        let a = calls-follow N M whole tried (after .whole) (after .carries .good) in
+        let b = clean-told N M (afterCalls storeRules whole tried) last (a .whole) (a .carries .good) e in
+        subst (Recovered storeRules first h)
+        (sym (stop-made (whole ++ (last ∷ [])) sel tried ∙ calls-more whole last tried ∙ ap (λ es. made es (afterCalls storeRules whole tried)) (b .1)))
+        (recovered (afterCalls storeRules whole tried) (a .whole) (b .0)
+        (λ r j lr lj.
+        a .carries .final (spot r j) _ (home r j lr lj) (after .carries .final (spot r j) _ (home r j lr lj) (l .left .final r j lr lj))))
+      where
+        home : (r j : ℕ) → r < N → j < 4 → Home N (spot r j)
+        home r j lr lj = (omega arith, omega arith)

@@ -1,163 +1,97 @@
 -- The store's rules meet demands 2 and 3.
-use Prim.Native.Nat.{ℕ, zero, suc, _≤_, _<_}
+use Prim.Native.Nat.{ℕ, _≤_, _<_}
 use mathlib.Core.Path.{_≡_, refl, sym, ap, _∙_, subst}
-use mathlib.Core.Logic.{_⊎_, inl, inr}
-use mathlib.Core.Bool.{Bool, true, false, cond, not}
+use mathlib.Core.Bool.{Bool, true, false, cond, not, false≢true}
 use mathlib.Core.Option.{Option, none, some}
 use mathlib.Core.List.{List, [], _∷_, _++_}
 use native.Mathlib.Omega.{arith}
-use lib.Dec.{T, leb, ltb, nleb→lt}
-use Rattle.layout.specs.Checks.{answered}
-use Rattle.layout.specs.Image.{recordsOf, sessionsOf, homeWords}
-use Rattle.desk.specs.Desk.{sessionAt, copyAt}
-use Rattle.desk.specs.declared.state.Desk.{Desk}
-use Rattle.snapshot.specs.Own.{ownPlace}
-use Rattle.snapshot.specs.declared.reading.ReadReply.{ReadReply}
-use Rattle.snapshot.specs.declared.reading.ReadAnswer.the-variants.{Own, Copy, Home}
-use Rattle.recovery.specs.Open.{openReply}
-use Rattle.snapshot.specs.Read.{readFault, readReply, readRefused, readDone, readGives, copyShown, startOf, holderEntry}
-use Rattle.recovery.specs.declared.opening.OpenAnswer.the-variants.{Ok as Opened}
-use Rattle.history.proofs.Due.{linked-due}
-use Rattle.claims.specs.Call.{Call, begin, read, write, abandon, finish, publish, settle, reclaim, Event, began, looked, wrote, abandoned, finished, published as made-public, settled, reclaimed}
-use Rattle.history.specs.Desk.{find, Session, idle, active, sealed, published, Desk as Txns}
+use lib.Dec.{T, leb, nleb→lt}
+use lib.ListN.{take}
+use Rattle.layout.specs.Crash.{arrived, crashed as crash}
+use Rattle.layout.specs.Entries.{made}
+use Rattle.layout.specs.Image.{recordsOf, sessionsOf}
+use Rattle.layout.specs.Told.{Told, ok, is, Copy, Home}
+use Rattle.history.specs.Call.{Call, read}
+use Rattle.history.specs.Cut.{feedCut}
+use Rattle.history.specs.Desk.{find, Session, idle, active, sealed, published, holder}
+use Rattle.history.specs.Due.{fourWords, shownBy, readsOther, readsOwn, reads, refuse, dueOf, due}
+use Rattle.history.specs.History.{History, viewAt}
 use Rattle.history.specs.Layout.{view}
+use Rattle.history.specs.Ledger.{Ledger}
+use Rattle.history.proofs.Calls.{Held}
+use Rattle.history.proofs.Cuts.{crash-behind}
 use Rattle.history.proofs.Invariant.{Active}
-use Rattle.claims.proofs.Abstraction.{abs}
-use Rattle.claims.specs.History.{History, viewAt}
-use Rattle.history.specs.Ledger.{fourWords}
-use Rattle.claims.specs.Ledger.{Ledger, dueOther, dueOwn, dueRead, unread, shownBy, holderOf, due}
 use Rattle.claims.specs.Rules.{storeRules}
-use Rattle.claims.specs.Run.{World, opened, event, run}
-use Rattle.claims.specs.Demands.{Demand2, ReadRight, Cut, opening, during, before, cutImage, cutHistory, Demand3}
-use Rattle.claims.proofs.SameHistory.{past}
-use Rattle.claims.proofs.SameLedger.{kept}
-use Rattle.claims.proofs.SameDue.{Blank, holds-shows, due-said, due-short, due-of-call, same-event}
+use Rattle.claims.specs.Run.{World, opened, reply, run, stored}
+use Rattle.claims.specs.Demands.{Demand2, StoresDue, Cut, opening, during, before, cutImage, cutHistory, ReadRight, Demand3}
+use Rattle.claims.proofs.Along.{Along, same, opened-along, run-along, stored-made, stored-fenced}
+use Rattle.claims.proofs.CutRecovers.{Left, uncut, cut-left, tried-ends, tried-clean}
 use Rattle.claims.proofs.Views.{run-stays, run-append, cut-view}
-use Rattle.claims.proofs.CutRecovers.{Left, uncut, cut-left, ends, ends-records}
-use Rattle.claims.proofs.Along.{op, Roomy, Nothing, Short, world-of, Along, same, op-event, room, opened-along, run-along}
 
--- a refused read has no words
-blank-read : (img : List ℕ) (d : Desk) (s r fault : ℕ)
-    → Blank (looked s r (answered fault (readRefused d) (readDone img d s r) .answer) (answered fault (readRefused d) (readDone img d s r) .words))
-unfolding answered
-blank-read img d s r (suc k) = refl
-blank-read img d s r zero = go (ltb (ownPlace (sessionAt d s) r) 4) (copyShown d (startOf (sessionAt d s .phase)) r)
-  where
-    own : ReadReply
-    own = readGives d Own (copyAt (sessionAt d s) (ownPlace (sessionAt d s) r) .words)
-
-    other : ReadReply
-    other = readGives d Copy (copyAt (holderEntry d r) (ownPlace (holderEntry d r) r) .words)
-
-    home : ReadReply
-    home = readGives d Home (homeWords img r)
-
-    go : (a b : Bool) → Blank (looked s r (cond {A = ReadReply} a own (cond {A = ReadReply} b other home) .answer) (cond {A = ReadReply} a own (cond {A = ReadReply} b other home) .words))
-    go true b = tt
-    go false true = tt
-    go false false = tt
-
-blank-event : (w : World) (c : Call) → Blank (event storeRules w c)
-unfolding event readReply
-blank-event w (begin s) = tt
-blank-event w (read s r) = blank-read (w .image) (w .desk) s r (readFault (w .image) (w .desk) s r)
-blank-event w (write s r ws) = tt
-blank-event w (abandon s) = tt
-blank-event w (finish len s) = tt
-blank-event w (publish s) = tt
-blank-event w (settle len s) = tt
-blank-event w (reclaim len s) = tt
-
--- a trace that is too short is refused with 3
-short-due : (N M : ℕ) (L : Ledger) (c : Call) (v : Event) → Short c v → v ≡ due N M L c
-short-due N M L (begin s) v e = absurd e
-short-due N M L (read s r) v e = absurd e
-short-due N M L (write s r ws) v e = absurd e
-short-due N M L (abandon s) v e = absurd e
-short-due N M L (finish len s) v e = e .1 ∙ sym (due-short N M L len s (e .0) .0)
-short-due N M L (publish s) v e = absurd e
-short-due N M L (settle len s) v e = e .1 ∙ sym (due-short N M L len s (e .0) .1)
-short-due N M L (reclaim len s) v e = e .1 ∙ sym (due-short N M L len s (e .0) .2)
-
--- the answer of a call is the one that is due
-pub answer-due : (N M : ℕ) (w : World) → Along N M w → (c : Call) → event storeRules w c ≡ due N M (w .ledger) c
-answer-due N M w a c = go (room N M w (a .ready) c)
-  where
-    L : Ledger
-    L = w .ledger
-
-    go : Roomy c ⊎ Nothing w c → event storeRules w c ≡ due N M (w .ledger) c
-    go (inl l) =
-        same-event c (event storeRules w c) (due N M (w .ledger) c) (record { call = op-event w c; blank = blank-event w c }) (due-of-call N M (w .ledger) c)
-        (same N M w c (a .ready) l .answers
-        ∙ linked-due N M (kept (w .ledger)) (world-of w) (a .held) (a .linked) (op c)
-        ∙ sym (due-said N M (w .ledger) c l (holds-shows N M _ _ _ (w .ledger) (a .linked .desk) (a .linked .history) (a .held) c)))
-    go (inr n) = short-due N M (w .ledger) c (event storeRules w c) (n .short)
+-- ---- demand 2
 
 pub demand2 : Demand2 storeRules
-demand2 img o calls c = answer-due (recordsOf img) (sessionsOf img) (run storeRules calls (opened storeRules img)) (run-along _ _ calls _ (opened-along img o)) c
+demand2 img o calls c = same _ _ _ (run-along _ _ calls _ (opened-along img o)) c .answers
+
+pub stores-due : StoresDue storeRules
+stores-due img o calls c = same _ _ _ (run-along _ _ calls _ (opened-along img o)) c .stored
 
 -- ---- reads
 
--- the words of a read are the history's
-abbrev EventRight : History → ℕ → Event → Type 0
-EventRight h start (looked s r a ws) = ReadRight h start r a ws
-EventRight h start (began s a) = Unit {0}
-EventRight h start (wrote s r ws a) = Unit {0}
-EventRight h start (abandoned s a) = Unit {0}
-EventRight h start (finished s a) = Unit {0}
-EventRight h start (made-public s a) = Unit {0}
-EventRight h start (settled s a) = Unit {0}
-EventRight h start (reclaimed s a) = Unit {0}
+module _ (h : History) (start r : ℕ) where
+  -- what is neither a copy nor a home read
+  neither : (t : Told) → is Copy t ≡ false → is Home t ≡ false → ReadRight h start r t
+  neither t c e = record { copy = λ y. absurd (false≢true (sym c ∙ y)); home = λ y. absurd (false≢true (sym e ∙ y)) }
+
+  -- one that gives the view
+  right-other : (b : Bool) (ws : List ℕ) → ws ≡ viewAt h start r → ReadRight h start r (readsOther b ws .answer)
+  right-other true ws e = record { copy = λ y. e; home = λ y. absurd (false≢true y) }
+  right-other false ws e = record { copy = λ y. absurd (false≢true y); home = λ y. ap fourWords e }
 
 -- what is due of a read is right by the ledger's history, and by any history with the same views up to the clock
-due-right : (N M : ℕ) (w : World) → Along N M w → (h : History) → ((σ r : ℕ) → σ ≤ w .desk .clock → viewAt h σ r ≡ viewAt (w .ledger .history) σ r) → (s r : ℕ)
-    → EventRight h (w .ledger .history .start s) (due N M (w .ledger) (read s r))
-unfolding due
-due-right N M w a h stays s r = over (leb M s) (nleb→lt M s) (leb N r)
-  where
-    at : s < M → (x : Session) → w .ledger .session s ≡ x → EventRight h (w .ledger .history .start s) (dueRead M (w .ledger) s r x)
-    at l idle e = tt
-    at l (active b q cs) e = own (find r cs)
-      where
-        is : abs (w .desk) .session s ≡ active b q cs
-        is = ap (λ (x : Txns). x .session s) (sym (a .linked .desk)) ∙ e
+module _ (N M : ℕ) (img : List ℕ) (L : Ledger) (a : Held N M img L) (h : History)
+    (stays : (σ r : ℕ) → σ ≤ L .desk .clock → viewAt h σ r ≡ viewAt (L .history) σ r) (s r : ℕ) where
+  abbrev Right : Told → Type 0
+  Right t = ReadRight h (L .history .start s) r t
 
-        act : Active N (view N (w .image)) (past (w .ledger .history)) (w .desk .clock) s b q cs
-        act = rw is at (a .held .inv .fine s l)
+  right-at : s < M → (x : Session) → L .desk .session s ≡ x → Right (reads M (L .desk) (L .history) r x .answer)
+  right-at l idle e = neither h _ r _ refl refl
+  right-at l (active b q cs) e = own (find r cs)
+    where
+      act : Active N (view N img) (L .history) (L .desk .clock) s b q cs
+      act = rw e at (a .holds .inv .fine s l)
 
-        same-view : viewAt (w .ledger .history) b r ≡ viewAt h (w .ledger .history .start s) r
-        same-view = sym (ap (λ σ. viewAt h σ r) (act .noted) ∙ stays b r (act .begun))
+      same-view : viewAt (L .history) b r ≡ viewAt h (L .history .start s) r
+      same-view = sym (ap (λ σ. viewAt h σ r) (act .noted) ∙ stays b r (act .begun))
 
-        other : (z : Bool) → EventRight h (w .ledger .history .start s) (dueOther s r z (viewAt (w .ledger .history) b r))
-        other true = same-view
-        other false = ap fourWords same-view
+      own : (o : Option (List ℕ)) → Right (readsOwn o (readsOther (shownBy b (L .desk) (holder M (L .desk) r)) (viewAt (L .history) b r)) .answer)
+      own none = right-other h _ r (shownBy b (L .desk) (holder M (L .desk) r)) (viewAt (L .history) b r) same-view
+      own (some ws) = neither h _ r _ refl refl
+  right-at l (sealed n q cs) e = neither h _ r _ refl refl
+  right-at l (published f q cs) e = neither h _ r _ refl refl
 
-        own : (o : Option (List ℕ)) → EventRight h (w .ledger .history .start s)
-            (dueOwn s r o (dueOther s r (shownBy b (w .ledger .session) (holderOf M (w .ledger .session) r)) (viewAt (w .ledger .history) b r)))
-        own none = other (shownBy b (w .ledger .session) (holderOf M (w .ledger .session) r))
-        own (some ws) = tt
-    at l (sealed n q cs) e = tt
-    at l (published f q cs) e = tt
-
-    over : (p : Bool) → (T (not p) → s < M) → (z : Bool)
-        → EventRight h (w .ledger .history .start s) (cond p (unread s r 4) (cond z (unread s r 5) (dueRead M (w .ledger) s r (w .ledger .session s))))
-    over true f z = tt
-    over false f true = tt
-    over false f false = at (f tt) (w .ledger .session s) refl
+  due-right : Right (due N M L (read s r) .answer)
+  unfolding due
+  due-right = over (leb M s) (nleb→lt M s) (leb N r)
+    where
+      over : (p : Bool) → (T (not p) → s < M) → (z : Bool)
+          → Right (cond p (refuse 4) (cond z (refuse 5) (reads M (L .desk) (L .history) r (L .desk .session s))) .answer)
+      over true f z = neither h _ r _ refl refl
+      over false f true = neither h _ r _ refl refl
+      over false f false = right-at (f tt) (L .desk .session s) refl
 
 -- every copy or home read before a cut gave the words that the history at the cut names
 read-right : (N M : ℕ) (w : World) → Along N M w → (earlier later : List Call) (s r : ℕ) (h : History)
     → ((σ u : ℕ) → viewAt h σ u ≡ viewAt (run storeRules (earlier ++ (read s r ∷ later)) w .ledger .history) σ u)
-    → EventRight h (run storeRules earlier w .ledger .history .start s) (event storeRules (run storeRules earlier w) (read s r))
+    → ReadRight h (run storeRules earlier w .ledger .history .start s) r (reply storeRules (run storeRules earlier w) (read s r) .told)
 read-right N M w a earlier later s r h same-cut =
-    subst (EventRight h (run storeRules earlier w .ledger .history .start s)) (sym (answer-due N M (run storeRules earlier w) there (read s r)))
-    (due-right N M (run storeRules earlier w) there h stays s r)
+    subst (ReadRight h (run storeRules earlier w .ledger .history .start s) r) (sym (same N M (run storeRules earlier w) there (read s r) .answers))
+    (due-right N M (run storeRules earlier w .image) (run storeRules earlier w .ledger) (there .held) h stays s r)
   where
     there : Along N M (run storeRules earlier w)
     there = run-along N M earlier w a
 
-    stays : (σ u : ℕ) → σ ≤ run storeRules earlier w .desk .clock → viewAt h σ u ≡ viewAt (run storeRules earlier w .ledger .history) σ u
+    stays : (σ u : ℕ) → σ ≤ run storeRules earlier w .ledger .desk .clock → viewAt h σ u ≡ viewAt (run storeRules earlier w .ledger .history) σ u
     stays σ u l =
         same-cut σ u
         ∙ ap (λ (x : World). viewAt (x .ledger .history) σ u) (run-append earlier (read s r ∷ later) w)
@@ -165,32 +99,47 @@ read-right N M w a earlier later s r h same-cut =
 
 -- ---- demand 3
 
-module _ (img : List ℕ) (o : openReply img .answer ≡ Opened) where
+module _ (img : List ℕ) (o : storeRules .opens img .told ≡ ok) where
   start : Along (recordsOf img) (sessionsOf img) (opened storeRules img)
   start = opened-along img o
 
-  -- what the cut leaves
+  -- what the cut leaves: all that whole calls have stored is fenced, so that it is a cut of the last call alone
   left : (cut : Cut) → Left (recordsOf img) (sessionsOf img) (cutImage storeRules img cut) (cutHistory storeRules img cut)
   left opening = uncut _ _ (opened storeRules img) start
-  left (during calls c k sel) = cut-left _ _ (run storeRules calls (opened storeRules img)) (run-along _ _ calls _ start) c k sel
+  left (during calls c k sel) =
+      subst (λ (i : List ℕ). Left (recordsOf img) (sessionsOf img) i (feedCut (recordsOf img) (there .ledger .desk) c (reply storeRules there c .told) i (there .ledger .history)))
+      (sym (behind .1 ∙ ap (λ i. crash′ (behind .0) i) (stored-made calls (opened storeRules img))))
+      (cut-left _ _ there (run-along _ _ calls _ start) c k (behind .0))
+    where
+      there : World
+      there = run storeRules calls (opened storeRules img)
+
+      crash′ : (ℕ → Bool) → List ℕ → List ℕ
+      crash′ s i = crash k s (reply storeRules there c .entries) i
+
+      behind : (sel′ : ℕ → Bool) × (arrived sel 0 (stored storeRules calls (opened storeRules img) ++ take k (reply storeRules there c .entries)) img
+          ≡ crash k sel′ (reply storeRules there c .entries) (made (stored storeRules calls (opened storeRules img)) img))
+      behind = crash-behind k sel (stored storeRules calls (opened storeRules img)) (reply storeRules there c .entries) img (stored-fenced calls (opened storeRules img))
 
   -- reads along the list
-  reads : (cut : Cut) (earlier later : List Call) (s r : ℕ) → before cut ≡ earlier ++ (read s r ∷ later)
-      → EventRight (cutHistory storeRules img cut) (run storeRules earlier (opened storeRules img) .ledger .history .start s) (event storeRules (run storeRules earlier (opened storeRules img)) (read s r))
-  reads opening earlier later s r e = absurd (not-empty earlier (read s r) later e)
+  reads-right : (cut : Cut) (earlier later : List Call) (s r : ℕ) → before cut ≡ earlier ++ (read s r ∷ later)
+      → ReadRight (cutHistory storeRules img cut) (run storeRules earlier (opened storeRules img) .ledger .history .start s) r
+      (reply storeRules (run storeRules earlier (opened storeRules img)) (read s r) .told)
+  reads-right opening earlier later s r e = absurd (not-empty earlier (read s r) later e)
     where
       not-empty : (xs : List Call) (c : Call) (ys : List Call) → [] ≡ xs ++ (c ∷ ys) → ⊥
       not-empty [] c ys q = let z : _≡_ {A = ℕ} 0 1 = cc in omega arith
       not-empty (x ∷ xs) c ys q = let z : _≡_ {A = ℕ} 0 1 = cc in omega arith
-  reads (during calls c k sel) earlier later s r e =
+  reads-right (during calls c k sel) earlier later s r e =
       read-right _ _ (opened storeRules img) start earlier later s r _
-      (λ σ u. cut-view (run storeRules calls (opened storeRules img)) c _ σ u ∙ ap (λ (x : List Call). viewAt (run storeRules x (opened storeRules img) .ledger .history) σ u) e)
+      (λ σ u.
+      cut-view _ _ c _ _ (run storeRules calls (opened storeRules img) .ledger .history) σ u
+      ∙ ap (λ (x : List Call). viewAt (run storeRules x (opened storeRules img) .ledger .history) σ u) e)
 
 pub demand3 : Demand3 storeRules
-unfolding event
-demand3 img o cut tries x =
+demand3 img o cut attempts =
     record {
-      clean = ends (recordsOf img) (sessionsOf img) _ (cutHistory storeRules img cut) (left img o cut .whole) (left img o cut .left) tries x .clean;
-      records = ends-records (recordsOf img) (sessionsOf img) _ (cutHistory storeRules img cut) (left img o cut .whole) (left img o cut .left) tries x;
-      reads = reads img o cut;
+      ends = tried-ends _ _ img (cutHistory storeRules img cut) refl refl _ (left img o cut) attempts;
+      clean-right = tried-clean _ _ img (cutHistory storeRules img cut) refl refl _ (left img o cut) attempts;
+      reads = reads-right img o cut;
     }

@@ -1,6 +1,6 @@
 -- The checks that calls share, as the abstract calls make them, and calls that change nothing or one session.
 use Prim.Native.Nat.{ℕ, _<_}
-use mathlib.Core.Path.{_≡_, refl, _∙_}
+use mathlib.Core.Path.{_≡_, refl, sym, _∙_}
 use mathlib.Core.Bool.{true, cond}
 use mathlib.Core.List.{List, []}
 use native.Mathlib.Omega.{arith}
@@ -15,9 +15,11 @@ use Rattle.desk.specs.declared.state.Session.{Session}
 use Rattle.desk.specs.declared.state.Desk.{Desk}
 use Rattle.desk.proofs.Facts.{says-coherent}
 use Rattle.desk.specs.Entering.{sessionFault, deskFault, imageFault}
-use Rattle.history.specs.Desk.{Session as Txn, idle, with-session, holder}
-use Rattle.history.specs.History.{Answer}
-use Rattle.history.specs.Calls.{say}
+use Rattle.layout.specs.Told.{Told}
+use Rattle.history.specs.Call.{Call}
+use Rattle.history.specs.Desk.{Session as Txn, idle, withSession, holder}
+use Rattle.history.specs.Due.{say}
+use Rattle.history.specs.Ledger.{noteDesk}
 use Rattle.claims.proofs.Abstraction.{abs, pack, abs-put, marked, holder-mark}
 use Rattle.claims.proofs.Simulation.{Sim, Ready, ready-fault}
 
@@ -53,16 +55,17 @@ module _ (N M : ℕ) (img : List ℕ) (d : Desk) (h : Ready N M img d) where
   pub holder-named : (r : ℕ) → r < N → holder M (abs d) r ≡ marked (markAt d r)
   holder-named r l = rw (← h .m-same) (holder-mark d (h .coherent) (h .copies-long) r (omega (arith, h .n-same, h .coherent .n-high)))
 
--- an answer alone
-pub told : (a : Answer) (d : Desk) → Sim a [] d (say a (abs d))
-told a d = record { answers = refl; stored = refl; desk = refl }
+module _ (c : Call) (f : ℕ → ℕ) (d : Desk) (t : Told) where
+  -- told, and nothing changed
+  pub told : noteDesk c t f (abs d) ≡ abs d → Sim c f d t [] d (say t)
+  told n = record { answers = refl; stored = refl; desk = sym n }
 
--- an answer, and another entry for one session
-pub entered : (a : Answer) (d : Desk) (s : ℕ) (e : Session) (hs : List ℕ) (x : Txn) → s < length (d .sessions) → pack e ≡ x
-    → Sim a [] (record { clock = d .clock; n = d .n; m = d .m; holders = hs; sessions = set (d .sessions) s e }) (say a (with-session s x (abs d)))
-entered a d s e hs x l p =
-    record { answers = refl; stored = refl; desk = rw (← p) (abs-put d (d .clock) (d .n) (d .m) s e hs l) }
+  -- told, and another entry for one session
+  pub entered : (s : ℕ) (e : Session) (hs : List ℕ) (x : Txn) → s < length (d .sessions) → pack e ≡ x → noteDesk c t f (abs d) ≡ withSession s x (abs d)
+      → Sim c f d t [] (record { clock = d .clock; n = d .n; m = d .m; holders = hs; sessions = set (d .sessions) s e }) (say t)
+  entered s e hs x l p n =
+      record { answers = refl; stored = refl; desk = (rw (← p) (abs-put d (d .clock) (d .n) (d .m) s e hs l)) ∙ sym n }
 
--- an answer, and one session idle with its marks and copies dropped
-pub emptied : (a : Answer) (d : Desk) (s : ℕ) → s < length (d .sessions) → Sim a [] (dropped d s) (say a (with-session s idle (abs d)))
-emptied a d s l = entered a d s idleSession (unmarked (d .holders) (sessionAt d s .copies) (sessionAt d s .count)) idle l refl
+  -- told, and one session idle with its marks and copies dropped
+  pub emptied : (s : ℕ) → s < length (d .sessions) → noteDesk c t f (abs d) ≡ withSession s idle (abs d) → Sim c f d t [] (dropped d s) (say t)
+  emptied s l n = entered s idleSession (unmarked (d .holders) (sessionAt d s .copies) (sessionAt d s .count)) idle l refl n

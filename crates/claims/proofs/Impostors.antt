@@ -1,190 +1,184 @@
--- The impostors fail on short computed runs. Check 2 is left out of what is computed: it takes long, and a desk that the calls left passes it.
-use Prim.Native.Nat.{ℕ, zero, suc}
-use mathlib.Core.Bool.{Bool, true, false, cond, _||_}
-use mathlib.Core.List.{List, [], _∷_, _++_}
-use mathlib.Core.Path.{_≡_, refl, ap, _∙_, subst, subst₂}
+-- The impostors fail on short computed runs. Where an impostor does what the store does, its run is the one that is due, which is computed
+-- from the ledger alone.
+use Prim.Native.Nat.{ℕ, zero, suc, _+_, _<_}
+use mathlib.Core.Bool.{Bool, true, false, cond, _&&_, not, false≢true}
+use mathlib.Core.List.{List, [], _∷_, _++_, append-nil, append-assoc}
+use mathlib.Core.Option.{some}
+use mathlib.Core.Path.{_≡_, refl, sym, ap, _∙_, subst}
 use native.Mathlib.Omega.{arith}
-use borrow.Author.Tests.{eqb-false}
-use lib.ListN.{getD}
-use lib.Dec.{ltb, eqb}
+use borrow.Author.Tests.{eqb-false, lt-ltb}
+use lib.ListN.{length, getD, take, set}
+use lib.Dec.{eqb, ltb}
+use Rattle.layout.proofs.BelowLaws.{lowest-some}
 use Rattle.layout.specs.Below.{allBelow, anyBelow, countBelow, lowest}
 use Rattle.layout.specs.Checks.{unless, first, answered}
-use Rattle.layout.specs.Image.{shapedB, occupiedB, occupiedAt, homeWords}
-use Rattle.layout.specs.Crash.{crashed}
-use Rattle.layout.specs.Lay.{emptyImage}
+use Rattle.layout.specs.Crash.{arrived}
+use Rattle.layout.specs.Entries.{Entry, store, fence, made, endsFenced}
 use Rattle.layout.specs.Homes.{homesWrites}
+use Rattle.layout.specs.Image.{shapedB, occupiedB, slotAt, homeWords}
+use Rattle.layout.specs.Lay.{emptyImage}
+use Rattle.layout.specs.Told.{Told, refused, result, ok, start, home, wait, held, clean, replayed, codeOf, isRefusal, wordsOf}
+use Rattle.layout.proofs.Says.{by-test}
 use Rattle.journal.specs.Log.{bodyWrites, unsoundB, sharedB}
 use Rattle.journal.specs.Oldest.{oldestOf}
-use Rattle.desk.specs.Desk.{unmarked, sessionAt, markAt, isIdle, isActive, isSealed, isPublished}
-use Rattle.desk.specs.Begin.{beginFault, beginRefused, begun, beginReply}
-use Rattle.desk.specs.Abandon.{abandonReply}
-use Rattle.desk.specs.Publish.{publishFault, publishRefused, published, publishReply}
-use Rattle.desk.specs.Coherent.{limit, coherentB}
+use Rattle.desk.specs.Desk.{sessionAt, markAt, isSealed}
+use Rattle.desk.specs.declared.state.Phase.{Phase}
+use Rattle.desk.specs.declared.state.Phase.the-variants.{Idle, Active, Sealed, Published}
 use Rattle.desk.specs.declared.state.Desk.{Desk}
-use Rattle.desk.proofs.Facts.{says-coherent}
-use Rattle.desk.specs.Entering.{sessionFault, entryFault}
-use Rattle.layout.specs.Checks.{roomFor}
+use Rattle.layout.specs.Tidy.{Tidy}
+use Rattle.commit.specs.Finish.{finishFault}
+use Rattle.commit.specs.Reclaim.{clearEntries}
 use Rattle.recovery.specs.Open.{openFault, openReply, freshDesk}
-use Rattle.recovery.specs.declared.opening.OpenAnswer.the-variants.{Ok as Opened}
-use Rattle.commit.specs.declared.settling.SettleReply.{SettleReply}
-use Rattle.commit.specs.declared.finishing.FinishReply.{FinishReply}
-use Rattle.layout.specs.Entries.{Entry}
-use Rattle.commit.specs.declared.reclaiming.ReclaimReply.{ReclaimReply}
-use Rattle.commit.specs.declared.reclaiming.ReclaimAnswer.the-variants.{Cleared}
-use Rattle.snapshot.specs.declared.reading.ReadReply.{ReadReply}
-use Rattle.snapshot.specs.declared.reading.ReadAnswer.the-variants.{Own, Home}
-use Rattle.desk.specs.declared.begin.BeginAnswer.{BeginAnswer}
-use Rattle.desk.specs.declared.begin.BeginAnswer.the-variants.{Refused as BeginRefused, Start}
-use Rattle.commit.specs.declared.settling.SettleAnswer.the-variants.{Ok as Settled}
-use Rattle.snapshot.specs.Read.{readFault, readRefused, readReply}
-use Rattle.snapshot.specs.Write.{copyFault, ownsB, emptySlot, writeFault, writeRefused, writeDone, writeReply}
-use Rattle.commit.specs.Finish.{finishFault, finishRefused, finishDone, sealEntries, finishEntries, finishReply}
-use Rattle.commit.specs.Settle.{settleFault, settleRefused, settleDone, settleReply, settleEntries, waitsFor, waitsB, goHomeEntries}
-use Rattle.commit.specs.Reclaim.{reclaimFault, reclaimRefused, reclaimReply, reclaimEntries, noneLeft, clearEntries}
 use Rattle.recovery.specs.Recover.{unsoundPlace, tiedBelow, tiesB, recoverFault, firstLog, recoverRefused, recoverReply, recoverEntries}
-use Rattle.history.specs.Desk.{upd, firstOf}
-use Rattle.claims.specs.Call.{Call, begin, read, write, abandon, finish, publish, settle, reclaim, began, looked, finished, settled, reclaimed}
-use Rattle.history.specs.Ledger.{fourWords}
-use Rattle.claims.specs.Ledger.{note, due, smallest}
-use Rattle.claims.specs.History.{recordOf}
-use Rattle.claims.specs.Recovery.{afterTry, afterTries, afterEnded}
-use Rattle.claims.specs.Rules.{Rules, storeRules}
-use Rattle.claims.specs.Impostors.{Impostors, turnsAway, waitsAtOnce, holdsAtOnce, readsZeros, doesNothing, storesNothing, saysClean, clearing, clearsOthers, unfenced, oneGroup, sessionOrder, clearsEarly, waitsLong, waitsForAll, heldSealed, showsSealed}
-use Rattle.claims.specs.Demands.{Demand2, Demand3, during, cutIn, cutFinish}
-use Rattle.claims.specs.Run.{World, event, entries, deskAfter, step, run, opened}
-use Rattle.claims.proofs.Steady.{Steady}
-use Rattle.claims.proofs.SteadyCalls.{fresh-steady, begin-kept, abandon-kept, publish-kept, write-kept, finish-kept, settle-kept, read-desk, reclaim-desk}
+use Rattle.history.specs.Call.{Call, begin, read, write, abandon, finish, publish, settle, reclaim}
+use Rattle.history.specs.Desk.{Copy, idle, sealed, Desk as Txns, upd, firstOf, holder}
+use Rattle.history.specs.Due.{fourWords, clockLimit, smallest, due}
+use Rattle.history.specs.Cut.{feedCut}
+use Rattle.history.specs.History.{History, feed, recordOf}
+use Rattle.history.specs.Ledger.{Ledger, note}
+use Rattle.claims.specs.Rules.{Reply, Rules, tells, storeRules}
+use Rattle.claims.specs.Run.{World, opened, openLedger, reply, step, run, stored}
+use Rattle.claims.specs.Recovery.{replays, afterCalls, afterStop, afterAttempts, afterWhole, Ends}
+use Rattle.claims.specs.Demands.{Demand2, Demand3, Cut, during, cutImage, cutHistory, Recovered}
+use Rattle.claims.specs.Impostors.{Impostors, Change, kindOf, past, storing, telling, relisting, zeroing, miscounting, clearingEarly, waitingForAll, showingSealed, lowestLog, busyOther, heldSealed, sealedCopy, turnsAway, waitsAtOnce, holdsAtOnce, readsZeros, zeroed, doesNothing, storesNothing, saysClean, clearing, clearsOthers, withoutLast, unfencedAt, replaysOne, miscounts, unfenced, oneGroup, sessionOrder, clearsEarly, waitsForAll, showsSealed}
+use Rattle.claims.proofs.Abstraction.{txn-of, copiesOf, marked}
+use Rattle.claims.proofs.Entering.{holder-named}
+use Rattle.claims.proofs.Along.{Along, same, step-along, run-along, opened-along, call-fenced}
+use Rattle.claims.proofs.Lists.{lists}
 
--- ---- the store's rules without check 2
-
--- the checks of calls without an image, and of those with one
-abbrev deskChecks : Desk → ℕ → ℕ
-deskChecks d s = sessionFault true (d .m) s
-
-abbrev imageChecks : List ℕ → Desk → Bool → ℕ → ℕ
-imageChecks img d room s = entryFault img true (d .n) (d .m) room s
-
--- those of write, finish and settle
-abbrev writeChecks : List ℕ → Desk → ℕ → ℕ → ℕ
-writeChecks img d s r =
-    first (imageChecks img d true s)
-    (first (unless (ltb r (d .n)) 5) (first (unless (isActive (sessionAt d s .phase)) 6) (cond (ownsB d s r) 0 (copyFault (markAt d r) (sessionAt d s .count) (emptySlot img (d .n) s)))))
-
-abbrev finishChecks : List ℕ → Desk → ℕ → ℕ → ℕ
-finishChecks img d len s =
-    first (imageChecks img d (roomFor len) s)
-    (first (unless (isActive (sessionAt d s .phase)) 6) (unless (eqb (sessionAt d s .count) 0 || ltb (d .clock) limit) 10))
-
-abbrev settleChecks : List ℕ → Desk → ℕ → ℕ → ℕ
-settleChecks img d len s = first (imageChecks img d (roomFor len) s) (unless (isPublished (sessionAt d s .phase)) 6)
-
--- read, abandon and reclaim stand as they are: no run has them
-abbrev trusting : Rules
-trusting =
-    record {
-      opens = openReply;
-      begin = λ d s. answered (first (deskChecks d s) (unless (isIdle (sessionAt d s .phase)) 6)) (beginRefused d) (begun d s);
-      read = readReply;
-      write = λ img d s r ws. answered (writeChecks img d s r) (writeRefused d s r) (writeDone img d s r ws);
-      abandon = abandonReply;
-      finish = λ img d len s. answered (finishChecks img d len s) (finishRefused d) (finishDone d s);
-      finishStores = λ img d len s. answered (finishChecks img d len s) (λ k. []) (cond (eqb (sessionAt d s .count) 0) [] (sealEntries d s));
-      publish = λ d s. answered (first (deskChecks d s) (unless (isSealed (sessionAt d s .phase)) 6)) (publishRefused d) (published d s);
-      settle = λ img d len s. answered (settleChecks img d len s) (settleRefused d) (settleDone d s);
-      settleStores = λ img d len s. answered (settleChecks img d len s) (λ k. []) (cond (waitsB d s) [] (goHomeEntries d s));
-      reclaim = reclaimReply;
-      reclaimStores = reclaimEntries;
-      recover = recoverReply;
-      recoverStores = recoverEntries;
-    }
-
--- check 2 passes
-coherent : (d : Desk) → Steady d → coherentB d ≡ true
-coherent d h = says-coherent d .no (h .coherent)
-
--- a step from a steady desk, and the desk that it leaves
-same-step : (w : World) (c : Call) → Steady (w .desk) → (step storeRules w c ≡ step trusting w c) × Steady (step trusting w c .desk)
-unfolding step event entries deskAfter beginReply beginFault publishReply publishFault writeReply writeFault finishReply finishEntries finishFault settleReply settleEntries settleFault
-same-step w c h = (same c, subst (λ (v : World). Steady (v .desk)) (same c) (kept c))
-  where
-    same : (c : Call) → step storeRules w c ≡ step trusting w c
-    same (begin s) = cc (coherent (w .desk) h)
-    same (read s r) = refl
-    same (write s r ws) = cc (coherent (w .desk) h)
-    same (abandon s) = refl
-    same (finish len s) = cc (coherent (w .desk) h)
-    same (publish s) = cc (coherent (w .desk) h)
-    same (settle len s) = cc (coherent (w .desk) h)
-    same (reclaim len s) = refl
-
-    kept : (c : Call) → Steady (step storeRules w c .desk)
-    kept (begin s) = begin-kept (w .desk) s h .steady
-    kept (read s r) = rw (read-desk (w .image) (w .desk) s r) h
-    kept (write s r ws) = write-kept (w .image) (w .desk) s r ws h .steady
-    kept (abandon s) = abandon-kept (w .desk) s h .steady
-    kept (finish len s) = finish-kept (w .image) (w .desk) len s h .steady
-    kept (publish s) = publish-kept (w .desk) s h .steady
-    kept (settle len s) = settle-kept (w .image) (w .desk) len s h .steady
-    kept (reclaim len s) = rw (reclaim-desk (w .image) (w .desk) len s) h
-
--- R does on each of these calls what the store does
-abbrev Alike : Rules → List Call → Type 0
-Alike R [] = Unit {0}
-Alike R (c ∷ cs) = ((w : World) → step R w c ≡ step storeRules w c) × Alike R cs
-
--- a run of such calls from a steady desk, and the desk that it leaves
-same-run : (R : Rules) (calls : List Call) (w : World) → Alike R calls → Steady (w .desk)
-    → (run R calls w ≡ run trusting calls w) × Steady (run trusting calls w .desk)
-unfolding run
-same-run R [] w a h = (refl, h)
-same-run R (c ∷ cs) w a h =
-    let q = same-step w c h in
-    let rest = same-run R cs (step trusting w c) (a .1) (q .1) in
-    (ap (run R cs) (a .0 w ∙ q .0) ∙ rest .0, rest .1)
-
--- ---- the demands after a run
+-- ---- what is due along a run
 
 -- a store of two records and two sessions
 abbrev image : List ℕ
 image = emptyImage 2 2
 
--- image, desk and ledger after the calls; `unfolding after` opens all that is computed here
+-- image and ledger
+record Seen : Type 0 where
+  image : List ℕ
+  ledger : Ledger
+
+abbrev shown : World → Seen
+shown w = record { image = w .image; ledger = w .ledger }
+
+abbrev next : Seen → Call → Seen
+next v c = record { image = made (due 2 2 (v .ledger) c .entries) (v .image); ledger = note c (due 2 2 (v .ledger) c .answer) (v .ledger) }
+
+seen : List Call → Seen → Seen
+seen [] v = v
+seen (c ∷ cs) v = seen cs (next v c)
+
+-- and all that is stored
+due-stored : List Call → Seen → List Entry
+due-stored [] v = []
+due-stored (c ∷ cs) v = due 2 2 (v .ledger) c .entries ++ due-stored cs (next v c)
+
+step-seen : (w : World) (a : Along 2 2 w) (c : Call) → shown (step storeRules w c) ≡ next (shown w) c
+unfolding step
+step-seen w a c = rw (same 2 2 w a c .stored, same 2 2 w a c .answers) refl
+
+run-seen : (calls : List Call) (w : World) → Along 2 2 w → shown (run storeRules calls w) ≡ seen calls (shown w)
+unfolding run seen
+run-seen [] w a = refl
+run-seen (c ∷ cs) w a = run-seen cs (step storeRules w c) (step-along 2 2 w a c) ∙ ap (seen cs) (step-seen w a c)
+
+stored-seen : (calls : List Call) (w : World) → Along 2 2 w → stored storeRules calls w ≡ due-stored calls (shown w)
+unfolding stored due-stored
+stored-seen [] w a = refl
+stored-seen (c ∷ cs) w a =
+    ap (λ (es : List Entry). es ++ stored storeRules cs (step storeRules w c)) (same 2 2 w a c .stored)
+    ∙ ap (λ (es : List Entry). due 2 2 (w .ledger) c .entries ++ es) (stored-seen cs (step storeRules w c) (step-along 2 2 w a c) ∙ ap (due-stored cs) (step-seen w a c))
+
+-- ---- from the opening
+
+-- what is computed of an opening and of recovery
+opens : storeRules .opens image .told ≡ ok
+unfolding allBelow anyBelow first answered shapedB occupiedB openFault openReply
+opens = refl
+
+-- the store's world after the calls, and what is due; `unfolding expected` opens all that is computed here
 after : List Call → World
-unfolding allBelow anyBelow countBelow lowest first sessionFault answered shapedB occupiedB homesWrites bodyWrites unsoundB sharedB oldestOf unmarked entryFault openFault openReply copyFault writeRefused waitsFor unsoundPlace tiedBelow tiesB recoverFault firstLog recoverRefused recoverReply recoverEntries note due smallest event entries deskAfter step run upd firstOf afterTry afterEnded clearing
-after calls = run trusting calls (opened trusting image)
+after calls = run storeRules calls (opened storeRules image)
 
--- the image that a cut in the call c leaves, and record 0 once recovery has ended
-abbrev lost : Rules → World → Call → ℕ → (ℕ → Bool) → List ℕ
-lost R w c k sel = crashed k sel (entries R w c) (w .image)
+expected : List Call → Seen
+unfolding allBelow anyBelow countBelow lowest first answered shapedB occupiedB homesWrites bodyWrites unsoundB sharedB oldestOf openFault openReply unsoundPlace tiedBelow tiesB recoverFault firstLog recoverRefused recoverReply recoverEntries note due clockLimit smallest reply upd firstOf seen due-stored replays afterAttempts clearing
+expected calls = seen calls (record { image = image; ledger = openLedger image })
 
-abbrev restored : Rules → List ℕ → List ℕ
-restored R img = homeWords (afterEnded (R .recoverStores) (λ i. 0) (countBelow 4 (occupiedAt img 2)) img) 0
+after-is : (calls : List Call) → run storeRules calls (opened storeRules image) ≡ after calls
+unfolding after
+after-is calls = refl
 
-module _ (R : Rules) (calls : List Call) (opens : R .opens ≡ openReply) (alike : Alike R calls) where
-  -- the run is the computed one
-  ran : (run R calls (opened R image) ≡ after calls) × Steady (after calls .desk)
+along : (calls : List Call) → Along 2 2 (after calls)
+unfolding after
+along calls = run-along 2 2 calls _ (opened-along image opens)
+
+after-expected : (calls : List Call) → shown (after calls) ≡ expected calls
+unfolding after expected
+after-expected calls = run-seen calls _ (opened-along image opens)
+
+-- what the store tells and stores next
+told-next : (calls : List Call) (c : Call) → reply storeRules (after calls) c .told ≡ due 2 2 (expected calls .ledger) c .answer
+told-next calls c = same 2 2 (after calls) (along calls) c .answers ∙ ap (λ (v : Seen). due 2 2 (v .ledger) c .answer) (after-expected calls)
+
+stores-next : (calls : List Call) (c : Call) → reply storeRules (after calls) c .entries ≡ due 2 2 (expected calls .ledger) c .entries
+stores-next calls c = same 2 2 (after calls) (along calls) c .stored ∙ ap (λ (v : Seen). due 2 2 (v .ledger) c .entries) (after-expected calls)
+
+-- ---- a run of calls on which R does what the store does
+
+abbrev Alike : Rules → List Call → Type 0
+Alike R [] = Unit {0}
+Alike R (c ∷ cs) = ((w : World) → reply R w c ≡ reply storeRules w c) × Alike R cs
+
+module _ (R : Rules) where
+  alike-step : (w : World) (c : Call) → reply R w c ≡ reply storeRules w c → step R w c ≡ step storeRules w c
+  unfolding step
+  alike-step w c e = ap (λ (y : Reply). record { image = made (y .entries) (w .image); desk = y .desk; ledger = note c (y .told) (w .ledger) }) e
+
+  alike-run : (calls : List Call) (w : World) → Alike R calls → run R calls w ≡ run storeRules calls w
+  unfolding run
+  alike-run [] w a = refl
+  alike-run (c ∷ cs) w a = alike-run cs (step R w c) (a .1) ∙ ap (run storeRules cs) (alike-step w c (a .0 w))
+
+  alike-stored : (calls : List Call) (w : World) → Alike R calls → stored R calls w ≡ stored storeRules calls w
+  unfolding stored
+  alike-stored [] w a = refl
+  alike-stored (c ∷ cs) w a =
+      ap (λ (y : Reply). y .entries ++ stored R cs (step R w c)) (a .0 w)
+      ∙ ap (λ (es : List Entry). reply storeRules w c .entries ++ es)
+      (alike-stored cs (step R w c) (a .1) ∙ ap (stored storeRules cs) (alike-step w c (a .0 w)))
+
+-- ---- demand 2
+
+-- a number for what is told, and its first word
+abbrev coded : Told → ℕ
+coded (refused k v) = 0
+coded (result x n ws) = codeOf x
+
+unlike-told : {t u : Told} → t ≡ u → eqb (coded t) (coded u) ≡ false → ⊥
+unlike-told e b = eqb-false _ _ b (ap coded e)
+
+unlike-words : {t u : Told} → t ≡ u → eqb (getD (wordsOf t) 0 0) (getD (wordsOf u) 0 0) ≡ false → ⊥
+unlike-words e b = eqb-false _ _ b (ap (λ (t : Told). getD (wordsOf t) 0 0) e)
+
+-- a call of the kind that is changed, where the store does not refuse it
+changed : (kind : ℕ) (change : Change) (calls : List Call) (c : Call) → eqb (kindOf c) kind ≡ true → isRefusal (due 2 2 (expected calls .ledger) c .answer) ≡ false
+    → reply (past kind change) (after calls) c ≡ change (after calls .image) (after calls .desk) c (reply storeRules (after calls) c)
+unfolding reply
+changed kind change calls c k n = rw (k, ap isRefusal (told-next calls c) ∙ n) refl
+
+-- with the store's opening
+abbrev opening-as : Rules → Rules
+opening-as R = record { opens = storeRules .opens; call = R .call; recover = R .recover }
+
+module _ (R : Rules) (calls : List Call) (a : Alike (opening-as R) calls) where
+  ran : run (opening-as R) calls (opened storeRules image) ≡ after calls
   unfolding after
-  ran =
-      let o : opened R image ≡ opened trusting image = cc in
-      let q = same-run R calls (opened trusting image) alike (fresh-steady 2 2 (omega arith) (omega arith) (omega arith) (omega arith)) in
-      (ap (run R calls) o ∙ q .0, q .1)
-
-  -- the image opens
-  opened-by : R .opens image .answer ≡ Opened
-  unfolding after
-  opened-by = rw opens
+  ran = alike-run (opening-as R) calls (opened storeRules image) a
 
   -- demand 2 of the call c
-  answers : Demand2 R → (c : Call) → event R (after calls) c ≡ due 2 2 (after calls .ledger) c
-  answers h c = subst (λ (w : World). event R w c ≡ due 2 2 (w .ledger) c) (ran .0) (h image opened-by calls c)
-
-  -- demand 3 of record 0 and a cut in the call c
-  restores : Demand3 R → (c : Call) (k : ℕ) (sel : ℕ → Bool)
-      → restored R (lost R (after calls) c k sel) ≡ fourWords (recordOf (cutIn R (after calls) c (lost R (after calls) c k sel)) 0)
-  unfolding afterTries
-  restores h c k sel =
-      subst (λ (w : World). restored R (lost R w c k sel) ≡ fourWords (recordOf (cutIn R w c (lost R w c k sel)) 0)) (ran .0)
-      (h image opened-by (during calls c k sel) [] (λ i. 0) .records 0 (omega arith))
+  answers : Demand2 (opening-as R) → (c : Call) → reply (opening-as R) (after calls) c .told ≡ due 2 2 (expected calls .ledger) c .answer
+  answers h c =
+      subst (λ (w : World). reply (opening-as R) w c .told ≡ due 2 2 (w .ledger) c .answer) ran (h image opens calls c)
+      ∙ ap (λ (v : Seen). due 2 2 (v .ledger) c .answer) (after-expected calls)
 
 -- ---- the runs
 
@@ -197,181 +191,394 @@ abbrev sealing : ℕ → ℕ → ℕ → List Call
 sealing s r x = begin s ∷ write s r (x ∷ 6 ∷ 7 ∷ 8 ∷ []) ∷ finish 48 s ∷ []
 
 -- session 1 settles record 0; then session 0 seals it, so that the older log has the higher place
+abbrev publishing : List Call
+publishing = sealing 1 0 5 ++ publish 1 ∷ []
+
 abbrev settling : List Call
-settling = sealing 1 0 5 ++ publish 1 ∷ settle 48 1 ∷ []
+settling = publishing ++ settle 48 1 ∷ []
 
 abbrev twice : List Call
 twice = settling ++ sealing 0 0 9
 
 -- ---- demand 2
 
--- what `cc` makes of two different answers
-never : _≡_ {A = ℕ} 0 1 → ⊥
-never e = omega arith
-
--- a call that gives what is due neither where it is refused nor past its checks
-neither : {A : Type 0} (P : A → Type 0) (k : ℕ) (f : ℕ → A) (a : A) → ((n : ℕ) → P (f n) → ⊥) → (P a → ⊥) → P (answered k f a) → ⊥
-unfolding answered
-neither P zero f a r d = d
-neither P (suc k) f a r d = r (suc k)
+-- demand 2 of a call that is changed
+past-answers : (kind : ℕ) (change : Change) (calls : List Call) (c : Call) → eqb (kindOf c) kind ≡ true → isRefusal (due 2 2 (expected calls .ledger) c .answer) ≡ false
+    → Alike (opening-as (past kind change)) calls → Demand2 (past kind change)
+    → change (after calls .image) (after calls .desk) c (reply storeRules (after calls) c) .told ≡ due 2 2 (expected calls .ledger) c .answer
+past-answers kind change calls c k n a h = ap (λ (y : Reply). y .told) (sym (changed kind change calls c k n)) ∙ answers (past kind change) calls a h c
 
 -- a start is due
 turns-away : (k : ℕ) → Demand2 (turnsAway k) → ⊥
-unfolding after
-turns-away k h = let e = answers (turnsAway k) [] refl tt h (begin 0) in never (cc)
+unfolding expected
+turns-away k h = unlike-told (answers (turnsAway k) [] tt h (begin 0)) refl
 
 -- ok is due
 waits-at-once : (t : ℕ) → Demand2 (waitsAtOnce t) → ⊥
-unfolding after
-waits-at-once t h = go (after calls) (answers (waitsAtOnce t) calls refl (search) h (settle 48 1))
-  where
-    calls : List Call
-    calls = sealing 1 0 5 ++ publish 1 ∷ []
-
-    go : (w : World) → event (waitsAtOnce t) w (settle 48 1) ≡ settled 1 Settled → ⊥
-    go w =
-        neither (λ (r : SettleReply). settled 1 (r .answer) ≡ settled 1 Settled) (settleFault (w .image) (w .desk) 48 1) (settleRefused (w .desk)) _
-        (λ n e. never (cc)) (λ e. never (cc))
+unfolding expected
+waits-at-once t h = unlike-told (past-answers 6 (telling (wait t)) publishing (settle 48 1) refl refl (search) h) refl
 
 -- cleared is due
 holds-at-once : (p : ℕ) → Demand2 (holdsAtOnce p) → ⊥
-unfolding after
-holds-at-once p h = go (after settling) (answers (holdsAtOnce p) settling refl (search) h (reclaim 48 1))
-  where
-    go : (w : World) → event (holdsAtOnce p) w (reclaim 48 1) ≡ reclaimed 1 (Cleared 1) → ⊥
-    go w =
-        neither (λ (r : ReclaimReply). reclaimed 1 (r .answer) ≡ reclaimed 1 (Cleared 1)) (reclaimFault (w .image) (w .desk) 48 1) (reclaimRefused (w .desk)) _
-        (λ n e. never (cc)) (λ e. never (cc))
+unfolding expected
+holds-at-once p h = unlike-told (past-answers 7 (telling (held p)) settling (reclaim 48 1) refl refl (search) h) refl
 
 -- the own copy is due
 reads-zeros : Demand2 readsZeros → ⊥
-unfolding after
-reads-zeros h = go (after writing) (answers readsZeros writing refl (search) h (read 1 0))
-  where
-    go : (w : World) → event readsZeros w (read 1 0) ≡ looked 1 0 Own (5 ∷ 6 ∷ 7 ∷ 8 ∷ []) → ⊥
-    go w =
-        neither (λ (r : ReadReply). looked 1 0 (r .answer) (r .words) ≡ looked 1 0 Own (5 ∷ 6 ∷ 7 ∷ 8 ∷ [])) (readFault (w .image) (w .desk) 1 0) (readRefused (w .desk)) _
-        (λ n e. never (cc)) (λ e. never (cc))
+unfolding expected
+reads-zeros h = unlike-words (ap zeroed (sym (told-next writing (read 1 0))) ∙ past-answers 2 zeroing writing (read 1 0) refl refl (search) h) refl
 
 -- a session begins twice: a start is due, then 6
 does-nothing : Demand2 doesNothing → ⊥
-unfolding after
-does-nothing h = go (beginReply (freshDesk 1 2 2) 0 .answer) (h image refl [] (begin 0)) (h image refl (begin 0 ∷ []) (begin 0))
+unfolding expected run step after
+does-nothing h = go (reply storeRules (after []) (begin 0) .told) (told-next [] (begin 0)) (h image opens (begin 0 ∷ []) (begin 0))
   where
-    go : (a : BeginAnswer) → began 0 a ≡ began 0 (Start 1) → began 0 a ≡ due 2 2 (note (began 0 a) (opened trusting image .ledger)) (begin 0) → ⊥
-    go (BeginRefused k) e f = never (cc)
-    go (Start b) e f = never (cc)
+    go : (t : Told) → t ≡ start 1 → t ≡ due 2 2 (note (begin 0) t (openLedger image)) (begin 0) .answer → ⊥
+    go t e f = unlike-told (sym e ∙ f ∙ ap (λ (u : Told). due 2 2 (note (begin 0) u (openLedger image)) (begin 0) .answer) e) refl
+
+-- the store's session is sealed where the ledger's is
+sealed-phase : (p : Phase) (q n r : ℕ) (cs ds : List Copy) → txn-of p q cs ≡ sealed n r ds → isSealed p ≡ true
+sealed-phase (Sealed m) q n r cs ds e = refl
+sealed-phase Idle q n r cs ds e = let z : _≡_ {A = ℕ} 0 1 = cc in absurd (omega arith)
+sealed-phase (Active b) q n r cs ds e = let z : _≡_ {A = ℕ} 0 1 = cc in absurd (omega arith)
+sealed-phase (Published m) q n r cs ds e = let z : _≡_ {A = ℕ} 0 1 = cc in absurd (omega arith)
+
+sealed-after : (calls : List Call) (t n r : ℕ) (ds : List Copy) → expected calls .ledger .desk .session t ≡ sealed n r ds → isSealed (sessionAt (after calls .desk) t .phase) ≡ true
+sealed-after calls t n r ds e =
+    sealed-phase (sessionAt (after calls .desk) t .phase) (sessionAt (after calls .desk) t .slot) n r (copiesOf (sessionAt (after calls .desk) t)) ds
+    (ap (λ (d : Txns). d .session t) (sym (along calls .linked)) ∙ ap (λ (v : Seen). v .ledger .desk .session t) (after-expected calls) ∙ e)
+
+-- where one session is sealed, settle waits for it
+waits-sealed : (calls : List Call) (s t n r : ℕ) (ds : List Copy) → expected calls .ledger .desk .session t ≡ sealed n r ds → t < 16 → eqb t s ≡ false
+    → ltb (lowest 16 (busyOther (after calls .desk) s)) 16 ≡ true
+waits-sealed calls s t n r ds e l k =
+    lt-ltb _ 16 (lowest-some (busyOther (after calls .desk) s) 16 t l (rw (k, sealed-after calls t n r ds e) refl))
 
 -- session 1 is sealed, and ok is due
 waits-for-all : Demand2 waitsForAll → ⊥
-unfolding after
-waits-for-all h = go (after calls) refl (answers waitsForAll calls refl (search depth 9) h (settle 48 0))
+unfolding expected
+waits-for-all h =
+    unlike-told
+    (sym (go (reply storeRules (after calls) (settle 48 0)) (told-next calls (settle 48 0))) ∙ past-answers 6 waitingForAll calls (settle 48 0) refl refl (search depth 9) h) refl
   where
     calls : List Call
     calls = sealing 1 0 5 ++ sealing 0 1 9 ++ publish 0 ∷ []
 
-    go : (w : World) → ltb (waitsLong (w .desk) 0) 16 ≡ true → event waitsForAll w (settle 48 0) ≡ settled 0 Settled → ⊥
-    go w b =
-        neither (λ (r : SettleReply). settled 0 (r .answer) ≡ settled 0 Settled) (settleFault (w .image) (w .desk) 48 0) (settleRefused (w .desk)) _
-        (λ n e. never (cc)) (λ e. never (cc))
+    d : Desk
+    d = after calls .desk
+
+    go : (y : Reply) → y .told ≡ ok → waitingForAll (after calls .image) d (settle 48 0) y .told ≡ wait (lowest 16 (busyOther d 0))
+    go y e = rw (e, waits-sealed calls 0 1 _ _ _ refl (omega arith) refl) refl
+
+-- a record that the ledger's session t holds is marked for it
+mark-after : (calls : List Call) (r t : ℕ) → r < 2 → holder 2 (expected calls .ledger .desk) r ≡ some t → markAt (after calls .desk) r ≡ suc t
+mark-after calls r t l e =
+    go (markAt (after calls .desk) r)
+    (sym (holder-named 2 2 (after calls .image) (after calls .desk) (along calls .ready) r l)
+    ∙ ap (λ (d : Txns). holder 2 d r) (sym (along calls .linked))
+    ∙ ap (λ (v : Seen). holder 2 (v .ledger .desk) r) (after-expected calls)
+    ∙ e)
+  where
+    go : (n : ℕ) → marked n ≡ some t → n ≡ suc t
+    go zero e = let z : _≡_ {A = ℕ} 0 1 = cc in absurd (omega arith)
+    go (suc u) e = cc
 
 -- home is due
 shows-sealed : Demand2 showsSealed → ⊥
-unfolding after
-shows-sealed h = go (after calls) refl (answers showsSealed calls refl (search) h (read 0 0))
+unfolding expected
+shows-sealed h =
+    unlike-told
+    (sym (go (reply storeRules (after calls) (read 0 0)) (told-next calls (read 0 0))) ∙ past-answers 2 showingSealed calls (read 0 0) refl refl (search depth 9) h) refl
   where
     calls : List Call
     calls = sealing 1 0 5 ++ begin 0 ∷ []
 
-    go : (w : World) → heldSealed (w .desk) 0 0 ≡ true → event showsSealed w (read 0 0) ≡ looked 0 0 Home (0 ∷ 0 ∷ 0 ∷ 0 ∷ []) → ⊥
-    go w b =
-        neither (λ (r : ReadReply). looked 0 0 (r .answer) (r .words) ≡ looked 0 0 Home (0 ∷ 0 ∷ 0 ∷ 0 ∷ [])) (readFault (w .image) (w .desk) 0 0) (readRefused (w .desk)) _
-        (λ n e. never (cc)) (λ e. let f = rw b at e in never (cc f))
+    d : Desk
+    d = after calls .desk
+
+    held-sealed : heldSealed d 0 ≡ true
+    held-sealed = rw (mark-after calls 0 1 (omega arith) refl, sealed-after calls 1 _ _ _ refl) refl
+
+    go : (y : Reply) → y .told ≡ home (0 ∷ 0 ∷ 0 ∷ 0 ∷ []) → showingSealed (after calls .image) d (read 0 0) y .told ≡ sealedCopy d 0
+    go y e = rw (e, held-sealed) refl
 
 -- ---- demand 3
 
+-- the first opening, and the list that ends before a call
+abbrev first-seen : Seen
+first-seen = record { image = image; ledger = openLedger image }
+
+-- all that is stored by the calls, where R does what the store does
+module _ (R : Rules) (calls : List Call) (a : Alike (opening-as R) calls) where
+  stored-expected : stored (opening-as R) calls (opened storeRules image) ≡ due-stored calls first-seen
+  stored-expected = alike-stored (opening-as R) calls (opened storeRules image) a ∙ stored-seen calls (opened storeRules image) (opened-along image opens)
+
+  -- a cut in the call c behind them
+  cut-expected : (c : Call) (k : ℕ) (sel : ℕ → Bool) (es : List Entry) → reply (opening-as R) (after calls) c .entries ≡ es
+      → cutImage (opening-as R) image (during calls c k sel) ≡ arrived sel 0 (due-stored calls first-seen ++ take k es) image
+  cut-expected c k sel es e =
+      ap (λ (xs : List Entry). arrived sel 0 (xs ++ take k (reply (opening-as R) (run (opening-as R) calls (opened storeRules image)) c .entries)) image) stored-expected
+      ∙ ap (λ (w : World). arrived sel 0 (due-stored calls first-seen ++ take k (reply (opening-as R) w c .entries)) image) (ran R calls a)
+      ∙ ap (λ (xs : List Entry). arrived sel 0 (due-stored calls first-seen ++ take k xs) image) e
+
+  history-expected : (c : Call) (k : ℕ) (sel : ℕ → Bool) (t : Told) → reply (opening-as R) (after calls) c .told ≡ t → (img : List ℕ) → cutImage (opening-as R) image (during calls c k sel) ≡ img
+      → cutHistory (opening-as R) image (during calls c k sel) ≡ feedCut 2 (expected calls .ledger .desk) c t img (expected calls .ledger .history)
+  history-expected c k sel t e img i =
+      ap (λ (j : List ℕ). feedCut 2 (run (opening-as R) calls (opened storeRules image) .ledger .desk) c (reply (opening-as R) (run (opening-as R) calls (opened storeRules image)) c .told) j
+      (run (opening-as R) calls (opened storeRules image) .ledger .history)) i
+      ∙ ap (λ (w : World). feedCut 2 (w .ledger .desk) c (reply (opening-as R) w c .told) img (w .ledger .history)) (ran R calls a)
+      ∙ ap (λ (u : Told). feedCut 2 (after calls .ledger .desk) c u img (after calls .ledger .history)) e
+      ∙ ap (λ (v : Seen). feedCut 2 (v .ledger .desk) c t img (v .ledger .history)) (after-expected calls)
+
 -- records that differ in their first words
 unlike : {xs ys : List ℕ} → xs ≡ ys → eqb (getD xs 0 0) (getD ys 0 0) ≡ false → ⊥
-unlike e b = eqb-false _ _ b (ap (λ l. getD l 0 0) e)
+unlike e b = eqb-false _ _ b (ap (λ (l : List ℕ). getD l 0 0) e)
 
--- from a steady desk
-module _ (img : List ℕ) (d : Desk) (len s : ℕ) (h : Steady d) where
-  -- reply and list
-  same-finish : (finishReply img d len s ≡ trusting .finish img d len s) × (finishEntries img d len s ≡ trusting .finishStores img d len s)
-  unfolding finishReply finishEntries finishFault
-  same-finish = (rw (coherent d h), rw (coherent d h))
+-- what demand 3 says of a cut that leaves img and the history h, once whole calls of recover have come to "clean"
+recovers : (R : Rules) → Demand3 (opening-as R) → (cut : Cut) (img : List ℕ) (h : History) → cutImage (opening-as R) image cut ≡ img
+    → cutHistory (opening-as R) image cut ≡ h → (whole : List ℕ) → R .recover (afterCalls (opening-as R) whole img) 48 .told ≡ clean
+    → Recovered (opening-as R) image h (afterStop (opening-as R) (whole ++ (48 ∷ [])) (λ n. true) img)
+unfolding afterAttempts
+recovers R d cut img h i e whole c =
+    subst (λ (k : History). Recovered (opening-as R) image k (afterStop (opening-as R) (whole ++ (48 ∷ [])) (λ n. true) img)) e
+    (subst (λ (j : List ℕ). R .recover (afterCalls (opening-as R) whole j) 48 .told ≡ clean
+    → Recovered (opening-as R) image (cutHistory (opening-as R) image cut) (afterStop (opening-as R) (whole ++ (48 ∷ [])) (λ n. true) j)) i
+    (d image opens cut [] .clean-right whole 48 (λ n. true)) c)
 
-  -- the checks
-  same-reclaim : reclaimFault img d len s ≡ imageChecks img d (roomFor len) s
-  unfolding reclaimFault
-  same-reclaim = rw (coherent d h)
+-- power fails between two calls
+module _ (R : Rules) (calls : List Call) (a : Alike (opening-as R) calls) (b : (w : World) → reply (opening-as R) w (publish 1) .entries ≡ []) where
+  abbrev left : List ℕ
+  left = arrived (λ n. true) 0 (due-stored calls first-seen ++ []) image
 
--- sealed, with the image as it was
-finish-leaves : Demand3 storesNothing
-    → restored storesNothing (after writing .image) ≡ fourWords (recordOf (note (finished 1 (finishReply (after writing .image) (after writing .desk) 48 1 .answer)) (after writing .ledger) .history) 0)
-unfolding run step event entries deskAfter afterTries
-finish-leaves h =
-    subst (λ (w : World). restored storesNothing (w .image) ≡ fourWords (recordOf (note (finished 1 (finishReply (w .image) (w .desk) 48 1 .answer)) (w .ledger) .history) 0))
-    (ran storesNothing writing refl (search) .0)
-    (h image (opened-by storesNothing writing refl (search)) (during (sealing 1 0 5) (begin 1) 0 (λ n. true)) [] (λ i. 0) .records 0 (omega arith))
-
--- nothing is restored
-stores-nothing : Demand3 storesNothing → ⊥
-unfolding after
-stores-nothing h =
-    let w = after writing in
-    let f = same-finish (w .image) (w .desk) 48 1 (ran storesNothing writing refl (search) .1) in
-    unlike
-    (subst (λ (r : FinishReply). restored storesNothing (w .image) ≡ fourWords (recordOf (note (finished 1 (r .answer)) (w .ledger) .history) 0)) (f .0) (finish-leaves h))
-    refl
+  between : Demand3 (opening-as R) → (whole : List ℕ) → R .recover (afterCalls (opening-as R) whole left) 48 .told ≡ clean
+      → Recovered (opening-as R) image (expected calls .ledger .history) (afterStop (opening-as R) (whole ++ (48 ∷ [])) (λ n. true) left)
+  between d whole c =
+      recovers R d (during calls (publish 1) 0 (λ n. true)) left _ (cut-expected R calls a (publish 1) 0 (λ n. true) [] (b (after calls)))
+      (history-expected R calls a (publish 1) 0 (λ n. true) _ refl left (cut-expected R calls a (publish 1) 0 (λ n. true) [] (b (after calls)))) whole c
 
 -- nothing is restored
 says-clean : Demand3 saysClean → ⊥
-unfolding after
-says-clean h = unlike (restores saysClean (sealing 1 0 5) refl (search) h (publish 1) 0 (λ n. true)) refl
+unfolding expected
+says-clean h = unlike (between saysClean (sealing 1 0 5) (search) (λ w. refl) h [] refl .records 0 (omega arith)) refl
 
 -- the newer log is not replayed
 clears-others : Demand3 clearsOthers → ⊥
-unfolding after
-clears-others h = unlike (restores clearsOthers twice refl (search depth 10) h (publish 0) 0 (λ n. true)) refl
+unfolding expected
+clears-others h = unlike (between clearsOthers twice (search depth 10) (λ w. refl) h (48 ∷ []) refl .records 0 (omega arith)) refl
 
 -- the older log is replayed last
 session-order : Demand3 sessionOrder → ⊥
-unfolding after
-session-order h = unlike (restores sessionOrder twice refl (search depth 10) h (publish 0) 0 (λ n. true)) refl
+unfolding expected
+session-order h = unlike (between sessionOrder twice (search depth 10) (λ w. refl) h (48 ∷ 48 ∷ []) refl .records 0 (omega arith)) refl
+
+-- a log is left
+replays-one : Demand3 replaysOne → ⊥
+unfolding expected
+replays-one h = unlike-told (between replaysOne twice (search depth 10) (λ w. refl) h [] refl .opens) refl
+
+-- ---- a list that is changed
+
+-- calls one after the other, by any rules
+run-last : (R : Rules) (calls : List Call) (c : Call) (w : World) → run R (calls ++ (c ∷ [])) w ≡ step R (run R calls w) c
+unfolding run
+run-last R [] c w = refl
+run-last R (x ∷ xs) c w = run-last R xs c (step R w x)
+
+stored-last : (R : Rules) (calls : List Call) (c : Call) (w : World) → stored R (calls ++ (c ∷ [])) w ≡ stored R calls w ++ reply R (run R calls w) c .entries
+unfolding run stored
+stored-last R [] c w = append-nil (reply R w c .entries)
+stored-last R (x ∷ xs) c w =
+    ap (λ (es : List Entry). reply R w x .entries ++ es) (stored-last R xs c (step R w x))
+    ∙ sym (append-assoc (reply R w x .entries) (stored R xs (step R w x)) _)
+
+module _ (kind : ℕ) (g : List Entry → List Entry) (calls : List Call) (c : Call) (k : eqb (kindOf c) kind ≡ true)
+    (n : isRefusal (due 2 2 (expected calls .ledger) c .answer) ≡ false) (a : Alike (opening-as (past kind (relisting g))) calls) where
+  abbrev Q : Rules
+  Q = opening-as (past kind (relisting g))
+
+  -- the call tells what is due
+  relisted-told : reply Q (after calls) c .told ≡ due 2 2 (expected calls .ledger) c .answer
+  relisted-told = ap (λ (y : Reply). y .told) (changed kind (relisting g) calls c k n) ∙ told-next calls c
+
+  -- and stores the changed list
+  relisted-entries : reply Q (after calls) c .entries ≡ g (due 2 2 (expected calls .ledger) c .entries)
+  relisted-entries = ap (λ (y : Reply). y .entries) (changed kind (relisting g) calls c k n) ∙ ap g (stores-next calls c)
+
+  relisted-stored : stored Q (calls ++ (c ∷ [])) (opened storeRules image) ≡ due-stored calls first-seen ++ g (due 2 2 (expected calls .ledger) c .entries)
+  relisted-stored =
+      stored-last Q calls c (opened storeRules image)
+      ∙ ap (λ (es : List Entry). es ++ reply Q (run Q calls (opened storeRules image)) c .entries) (stored-expected (past kind (relisting g)) calls a)
+      ∙ ap (λ (w : World). due-stored calls first-seen ++ reply Q w c .entries) (ran (past kind (relisting g)) calls a)
+      ∙ ap (λ (es : List Entry). due-stored calls first-seen ++ es) relisted-entries
+
+  -- power fails behind it, and of what no fence follows nothing has arrived
+  abbrev behind : Cut
+  behind = during (calls ++ (c ∷ [])) (begin 0) 0 (λ i. false)
+
+  abbrev left-behind : List ℕ
+  left-behind = arrived (λ i. false) 0 ((due-stored calls first-seen ++ g (due 2 2 (expected calls .ledger) c .entries)) ++ []) image
+
+  behind-history : cutHistory Q image behind ≡ feed c (due 2 2 (expected calls .ledger) c .answer) (expected calls .ledger .history)
+  unfolding step note
+  behind-history =
+      ap (λ (w : World). w .ledger .history) (run-last Q calls c (opened storeRules image))
+      ∙ ap (λ (w : World). feed c (reply Q w c .told) (w .ledger .history)) (ran (past kind (relisting g)) calls a)
+      ∙ ap (λ (t : Told). feed c t (after calls .ledger .history)) relisted-told
+      ∙ ap (λ (v : Seen). feed c (due 2 2 (expected calls .ledger) c .answer) (v .ledger .history)) (after-expected calls)
+
+  recovers-behind : Demand3 Q → (whole : List ℕ) → Q .recover (afterCalls Q whole left-behind) 48 .told ≡ clean
+      → Recovered Q image (feed c (due 2 2 (expected calls .ledger) c .answer) (expected calls .ledger .history))
+      (afterStop Q (whole ++ (48 ∷ [])) (λ i. true) left-behind)
+  unfolding reply
+  recovers-behind d whole e =
+      recovers (past kind (relisting g)) d behind left-behind _
+      (ap (λ (es : List Entry). arrived (λ i. false) 0 (es ++ take 0 (reply Q (run Q (calls ++ (c ∷ [])) (opened storeRules image)) (begin 0) .entries)) image) relisted-stored)
+      behind-history whole e
+
+-- nothing is stored
+stores-nothing : Demand3 storesNothing → ⊥
+unfolding expected
+stores-nothing h = unlike (recovers-behind 4 (λ es. []) writing (finish 48 1) refl refl (search) h [] refl .records 0 (omega arith)) refl
+
+-- the persist number has not arrived
+finish-unfenced : Demand3 (unfencedAt 4) → ⊥
+unfolding expected
+finish-unfenced h = unlike (recovers-behind 4 withoutLast writing (finish 48 1) refl refl (search) h [] refl .records 0 (omega arith)) refl
+
+-- recovery does not come to its end where recover refuses
+stuck : (R : Rules) (img : List ℕ) → isRefusal (R .recover img 48 .told) ≡ true → Ends R (λ i. 0) img → ⊥
+unfolding afterWhole
+stuck R img b e = go (e .calls) (e .replayed-each) (e .then-clean)
+  where
+    no : {t : Told} → isRefusal t ≡ true → (u : Told) → isRefusal u ≡ false → t ≡ u → ⊥
+    no b u f q = false≢true (sym f ∙ ap isRefusal (sym q) ∙ b)
+
+    go : (n : ℕ) → ((i : ℕ) → i < n → (p : ℕ) × (R .recover (afterWhole R (λ i. 0) i img) 48 .told ≡ replayed p))
+        → R .recover (afterWhole R (λ i. 0) n img) 48 .told ≡ clean → ⊥
+    go zero each last = no b clean refl last
+    go (suc n) each last = no b (replayed _) refl (each 0 (omega arith) .1)
 
 -- of the log only the persist number has arrived
 one-group : Demand3 oneGroup → ⊥
-unfolding after
-one-group h =
-    let w = after writing in
-    let f = same-finish (w .image) (w .desk) 48 1 (ran oneGroup writing refl (search) .1) in
-    unlike
-    (subst₂ (λ (r : FinishReply) (es : List Entry). restored oneGroup (left es) ≡ fourWords (recordOf (cutFinish w 1 (r .answer) (left es)) 0)) (f .0) (f .1)
-    (restores oneGroup writing refl (search) h (finish 48 1) 7 (λ n. eqb n 6)))
-    refl
+unfolding expected
+one-group h = stuck oneGroup _ refl (subst (λ (j : List ℕ). Ends oneGroup (λ i. 0) j) image-is (h image opens cut [] .ends (λ i. 0)))
   where
-    left : List Entry → List ℕ
-    left es = crashed 7 (λ n. eqb n 6) (unfenced es) (after writing .image)
+    cut : Cut
+    cut = during writing (finish 48 1) 7 (λ n. eqb n 6)
+
+    image-is : cutImage oneGroup image cut ≡ arrived (λ n. eqb n 6) 0 (due-stored writing first-seen ++ take 7 (unfenced (due 2 2 (expected writing .ledger) (finish 48 1) .entries))) image
+    image-is = cut-expected oneGroup writing (search) (finish 48 1) 7 (λ n. eqb n 6) _ (relisted-entries 4 unfenced writing (finish 48 1) refl refl (search))
+
+-- ---- settle without its fence
+
+-- a fence left out changes no image
+made-without : (es : List Entry) → endsFenced es ≡ true → (img : List ℕ) → made (withoutLast es) img ≡ made es img
+made-without [] e img = refl
+made-without (store i w ∷ []) e img = absurd (false≢true e)
+made-without (fence ∷ []) e img = refl
+made-without (store i w ∷ x ∷ es) e img = made-without (x ∷ es) e (set img i w)
+made-without (fence ∷ x ∷ es) e img = made-without (x ∷ es) e img
+
+module _ (kind : ℕ) where
+  unfenced-step : (w : World) (c : Call) → step (unfencedAt kind) w c ≡ step storeRules w c
+  unfolding step reply
+  unfenced-step w c =
+      by-test (eqb (kindOf c) kind && not (isRefusal (storeRules .call (w .image) (w .desk) c .told)))
+      (λ e. rw e
+      (ap (λ (img : List ℕ). record { image = img; desk = storeRules .call (w .image) (w .desk) c .desk; ledger = note c (storeRules .call (w .image) (w .desk) c .told) (w .ledger) })
+      (made-without (storeRules .call (w .image) (w .desk) c .entries) (call-fenced w c) (w .image))))
+      (λ e. rw e refl)
+
+  unfenced-run : (calls : List Call) (w : World) → run (unfencedAt kind) calls w ≡ run storeRules calls w
+  unfolding run
+  unfenced-run [] w = refl
+  unfenced-run (c ∷ cs) w = unfenced-run cs (step (unfencedAt kind) w c) ∙ ap (run storeRules cs) (unfenced-step w c)
+
+-- the copies have not arrived at home, and 0 in the persist number has
+settle-unfenced : Demand3 (unfencedAt 6) → ⊥
+unfolding expected
+settle-unfenced h = unlike (recovers (unfencedAt 6) h cut _ _ image-is history-is [] refl .records 0 (omega arith)) refl
+  where
+    cut : Cut
+    cut = during settling (reclaim 48 1) 1 (λ n. eqb n 13)
+
+    world-is : run (unfencedAt 6) settling (opened storeRules image) ≡ after settling
+    world-is = unfenced-run 6 settling (opened storeRules image) ∙ after-is settling
+
+    image-is : cutImage (unfencedAt 6) image cut
+        ≡ arrived (λ n. eqb n 13) 0 ((due-stored publishing first-seen ++ withoutLast (due 2 2 (expected publishing .ledger) (settle 48 1) .entries))
+        ++ take 1 (due 2 2 (expected settling .ledger) (reclaim 48 1) .entries)) image
+    image-is =
+        ap (λ (es : List Entry). arrived (λ n. eqb n 13) 0 (es ++ take 1 (reply (unfencedAt 6) (run (unfencedAt 6) settling (opened storeRules image)) (reclaim 48 1) .entries)) image)
+        (relisted-stored 6 withoutLast publishing (settle 48 1) refl refl (search))
+        ∙ ap (λ (w : World). arrived (λ n. eqb n 13) 0 ((due-stored publishing first-seen ++ withoutLast (due 2 2 (expected publishing .ledger) (settle 48 1) .entries)) ++ take 1 (reply storeRules w (reclaim 48 1) .entries)) image)
+        world-is
+        ∙ ap (λ (es : List Entry). arrived (λ n. eqb n 13) 0 ((due-stored publishing first-seen ++ withoutLast (due 2 2 (expected publishing .ledger) (settle 48 1) .entries)) ++ take 1 es) image)
+        (stores-next settling (reclaim 48 1))
+
+    history-is : cutHistory (unfencedAt 6) image cut ≡ expected settling .ledger .history
+    history-is = ap (λ (w : World). w .ledger .history) world-is ∙ ap (λ (v : Seen). v .ledger .history) (after-expected settling)
+
+-- ---- a log that is cleared early
+
+-- a session that is idle in the ledger is idle
+idle-phase : (p : Phase) (q : ℕ) (cs : List Copy) → txn-of p q cs ≡ idle → p ≡ Idle
+idle-phase Idle q cs e = refl
+idle-phase (Active b) q cs e = let z : _≡_ {A = ℕ} 0 1 = cc in absurd (omega arith)
+idle-phase (Sealed m) q cs e = let z : _≡_ {A = ℕ} 0 1 = cc in absurd (omega arith)
+idle-phase (Published m) q cs e = let z : _≡_ {A = ℕ} 0 1 = cc in absurd (omega arith)
 
 -- session 0 settles too, and clears the newer log
 clears-early : Demand3 clearsEarly → ⊥
-unfolding after
-clears-early h =
-    unlike
-    (subst (λ (k : ℕ). restored clearsEarly (left k) ≡ fourWords (recordOf (w .ledger .history) 0))
-    (same-reclaim (w .image) (w .desk) 48 0 (ran clearsEarly calls refl (search depth 12) .1))
-    (restores clearsEarly calls refl (search depth 12) h (reclaim 48 0) 2 (λ n. true)))
-    refl
+unfolding expected
+clears-early h = unlike (recovers clearsEarly h cut _ _ image-is history-is (48 ∷ []) refl .records 0 (omega arith)) refl
   where
     calls : List Call
     calls = twice ++ publish 0 ∷ settle 48 0 ∷ []
 
-    w : World
-    w = after calls
+    cut : Cut
+    cut = during calls (reclaim 48 0) 2 (λ n. true)
 
-    left : ℕ → List ℕ
-    left k = crashed 2 (λ n. true) (answered k (λ n. []) (cond (noneLeft (w .image) (w .desk) 0) [] (clearEntries (w .image) (w .desk) 0))) (w .image)
+    d : Desk
+    d = after calls .desk
+
+    -- it is idle, and its log is in slot 0
+    idle-now : sessionAt d 0 .phase ≡ Idle
+    idle-now =
+        idle-phase (sessionAt d 0 .phase) (sessionAt d 0 .slot) (copiesOf (sessionAt d 0))
+        (ap (λ (e : Txns). e .session 0) (sym (along calls .linked)) ∙ ap (λ (v : Seen). v .ledger .desk .session 0) (after-expected calls))
+
+    entries-are : clearEntries (after calls .image) d 0 ≡ store (slotAt 2 0) 0 ∷ fence ∷ []
+    entries-are = rw (along calls .ready .n-same, idle-now, ap (λ (v : Seen). v .image) (after-expected calls)) refl
+
+    cleared-now : reply clearsEarly (after calls) (reclaim 48 0) .entries ≡ store (slotAt 2 0) 0 ∷ fence ∷ []
+    cleared-now =
+        ap (λ (y : Reply). y .entries) (changed 7 clearingEarly calls (reclaim 48 0) refl refl)
+        ∙ go (reply storeRules (after calls) (reclaim 48 0)) (told-next calls (reclaim 48 0)) ∙ entries-are
+      where
+        go : (y : Reply) → y .told ≡ held 1 → clearingEarly (after calls .image) d (reclaim 48 0) y .entries ≡ clearEntries (after calls .image) d 0
+        go y e = rw e refl
+
+    image-is : cutImage clearsEarly image cut ≡ arrived (λ n. true) 0 (due-stored calls first-seen ++ (store (slotAt 2 0) 0 ∷ fence ∷ [])) image
+    image-is = cut-expected clearsEarly calls (search depth 12) (reclaim 48 0) 2 (λ n. true) _ cleared-now
+
+    history-is : cutHistory clearsEarly image cut ≡ expected calls .ledger .history
+    history-is = history-expected clearsEarly calls (search depth 12) (reclaim 48 0) 2 (λ n. true) _ refl _ image-is
+
+-- ---- the rule of a call's list
+
+miscounted : ((img : List ℕ) (e : Desk) (len s : ℕ)
+    → Tidy (finishFault img e len s) (miscounts .call img e (finish len s) .count) (miscounts .call img e (finish len s) .entries)) → ⊥
+unfolding expected
+miscounted h = go (storeRules .call (w .image) (w .desk) (finish 48 1)) (ap isRefusal (told-next writing (finish 48 1))) (lists .finish (w .image) (w .desk) 48 1 .counted) (h (w .image) (w .desk) 48 1 .counted)
+  where
+    w : World
+    w = after writing
+
+    go : (y : Reply) → isRefusal (y .told) ≡ false → y .count ≡ length (y .entries)
+        → cond (true && not (isRefusal (y .told))) (miscounting (w .image) (w .desk) (finish 48 1) y) y .count ≡ length (cond (true && not (isRefusal (y .told))) (miscounting (w .image) (w .desk) (finish 48 1) y) y .entries)
+        → ⊥
+    go y b c e = let f = rw b at e in omega (arith, f, c)
 
 pub impostors : Impostors
 impostors =
@@ -384,7 +591,10 @@ impostors =
       stores-nothing = stores-nothing;
       says-clean = says-clean;
       clears-others = clears-others;
-      miscounted = λ h. omega (arith, h [] (freshDesk 0 0 0) 0 0 .counted);
+      finish-unfenced = finish-unfenced;
+      settle-unfenced = settle-unfenced;
+      replays-one = replays-one;
+      miscounted = miscounted;
       one-group = one-group;
       session-order = session-order;
       clears-early = clears-early;

@@ -1,4 +1,4 @@
--- The world at an opening: image and desk are ready, and the invariant of crate history holds.
+-- The world at an opening: image and desk are ready, and the invariant of crate history holds. An image with empty slots opens.
 use Prim.Native.Nat.{ℕ, zero, suc, _+_, _*_, _<_}
 use mathlib.Core.Path.{_≡_, refl, sym, ap, _∙_, fun-ext}
 use mathlib.Core.Logic.{_⊎_, inl, inr}
@@ -13,15 +13,16 @@ use Rattle.layout.specs.Below.{anyBelow}
 use Rattle.layout.proofs.BelowLaws.{any-finds}
 use Rattle.layout.specs.Checks.{unless, answered}
 use Rattle.layout.proofs.ChecksLaws.{first-both, unless-zero, answered-zero}
-use Rattle.layout.specs.Image.{word, recordsOf, sessionsOf, shapedB, homeWords, persistAt, occupiedAt, occupiedB}
+use Rattle.layout.specs.Image.{word, slotAt, recordsOf, sessionsOf, shapedB, homeWords, persistAt, occupiedAt, occupiedB}
 use Rattle.layout.proofs.Says.{test}
 use Rattle.layout.proofs.Shape.{Shaped, says-shaped}
 use Rattle.desk.specs.Desk.{noSession, idleSession}
 use Rattle.recovery.specs.Open.{openFault, openReply, openRefused, opened as openedReply, freshDesk}
-use Rattle.recovery.specs.declared.opening.OpenAnswer.the-variants.{Ok as Opened}
+use Rattle.layout.specs.Told.{ok}
+use Rattle.recovery.specs.Told.{openTold}
 use Rattle.recovery.specs.declared.opening.OpenReply.{OpenReply}
 use Rattle.history.specs.Log.{Clean}
-use Rattle.history.specs.Layout.{base, view}
+use Rattle.history.specs.Layout.{view}
 use Rattle.history.specs.Desk.{spot, Session as Txn, idle}
 use Rattle.history.proofs.Kept.{Holds}
 use Rattle.claims.proofs.Abstraction.{pack, abs}
@@ -29,12 +30,12 @@ use Rattle.claims.proofs.Simulation.{Ready}
 use Rattle.claims.proofs.SteadyCalls.{fresh-steady}
 
 -- an image that opens passes the two checks
-module _ (img : List ℕ) (o : openReply img .answer ≡ Opened) where
+module _ (img : List ℕ) (o : openTold (openReply img .answer) ≡ ok) where
   passes : openFault img ≡ 0
   unfolding openReply answered
   passes = go (openFault img) o
     where
-      go : (k : ℕ) → answered k openRefused (openedReply img) .answer ≡ Opened → k ≡ 0
+      go : (k : ℕ) → openTold (answered k openRefused (openedReply img) .answer) ≡ ok → k ≡ 0
       go zero e = refl
       go (suc k) e = absurd (let z : _≡_ {A = ℕ} 0 1 = cc in omega arith)
 
@@ -80,7 +81,7 @@ module _ (img : List ℕ) (o : openReply img .answer ≡ Opened) where
   pub opens-numbers : (λ p. 0) ≡ view (recordsOf img) img .number
   opens-numbers = fun-ext (λ p. sym (at p (decLt p (2 * sessionsOf img))))
     where
-      at : (p : ℕ) → Dec (p < 2 * sessionsOf img) → getD img (base (recordsOf img) p) 0 ≡ 0
+      at : (p : ℕ) → Dec (p < 2 * sessionsOf img) → getD img (slotAt (recordsOf img) p) 0 ≡ 0
       at p (yes l) = ap (λ i. getD img i 0) (omega arith) ∙ opens-clean p l
       at p (no n) = List·getD-eq-default img 0 (omega (arith, shape .size))
 
@@ -95,7 +96,7 @@ module _ (img : List ℕ) (o : openReply img .answer ≡ Opened) where
   home-word r (suc (suc (suc zero))) l = refl
   home-word r (suc (suc (suc (suc j)))) l = absurd (omega arith)
 
-  pub opens-holds : Holds (recordsOf img) (sessionsOf img) img (record { clock = 1; session = λ t. idle }) (record { opening = homeWords img; seals = []; draft = λ t. []; start = λ t. 0 })
+  pub opens-holds : Holds (recordsOf img) (sessionsOf img) img (record { clock = 1; session = λ t. idle }) (record { opening = homeWords img; sealed = []; draft = λ t. []; start = λ t. 0 })
   opens-holds =
       record {
         whole = shape .size;

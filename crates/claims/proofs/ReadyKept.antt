@@ -7,9 +7,9 @@ use lib.ListN.{getD, length}
 use Rattle.layout.specs.Image.{recordsOf, sessionsOf}
 use Rattle.layout.proofs.Shape.{says-shaped}
 use Rattle.desk.specs.declared.state.Desk.{Desk}
-use Rattle.claims.specs.Call.{Call, begin, read, write, abandon, finish, publish, settle, reclaim}
+use Rattle.history.specs.Call.{Call, begin, read, write, abandon, finish, publish, settle, reclaim}
 use Rattle.claims.specs.Rules.{storeRules}
-use Rattle.claims.specs.Run.{World, deskAfter}
+use Rattle.claims.specs.Run.{World, reply}
 use Rattle.claims.proofs.Recovering.{Whole}
 use Rattle.claims.proofs.Simulation.{Ready}
 use Rattle.claims.proofs.Steady.{Steady, Kept}
@@ -39,8 +39,8 @@ stays : (d e : Desk) → Steady d → e ≡ d → Kept d e
 stays d e h q = rw q (record { steady = h; n-same = refl; m-same = refl })
 
 -- every call keeps the desk steady
-desk-kept : (w : World) (c : Call) → Steady (w .desk) → Kept (w .desk) (deskAfter storeRules w c)
-unfolding deskAfter
+desk-kept : (w : World) (c : Call) → Steady (w .desk) → Kept (w .desk) (reply storeRules w c .desk)
+unfolding reply
 desk-kept w (begin s) h = begin-kept (w .desk) s h
 desk-kept w (read s r) h = stays (w .desk) _ h (read-desk (w .image) (w .desk) s r)
 desk-kept w (write s r ws) h = write-kept (w .image) (w .desk) s r ws h
@@ -50,7 +50,7 @@ desk-kept w (publish s) h = publish-kept (w .desk) s h
 desk-kept w (settle len s) h = settle-kept (w .image) (w .desk) len s h
 desk-kept w (reclaim len s) h = stays (w .desk) _ h (reclaim-desk (w .image) (w .desk) len s)
 
-pub ready-kept : (N M : ℕ) (w : World) (c : Call) (img′ : List ℕ) → Ready N M (w .image) (w .desk) → Whole N M img′ → Ready N M img′ (deskAfter storeRules w c)
+pub ready-kept : (N M : ℕ) (w : World) (c : Call) (img′ : List ℕ) → Ready N M (w .image) (w .desk) → Whole N M img′ → Ready N M img′ (reply storeRules w c .desk)
 ready-kept N M w c img′ h g =
     let k = desk-kept w c (steady-of N M (w .image) (w .desk) h) in
     record {

@@ -1,36 +1,43 @@
 -- The store's recover, on a good image, does what history's does; so what is proved of history's holds of the store's.
 use Prim.Native.Nat.{ℕ, zero, suc, _+_, _*_, _≤_, _<_}
 use mathlib.Core.Bool.{Bool, true, false, cond}
-use mathlib.Core.Path.{_≡_, refl, ap, _∙_, subst}
-use mathlib.Core.List.{List, [], _∷_, map}
+use mathlib.Core.Path.{_≡_, refl, sym, ap, _∙_}
+use mathlib.Core.List.{List, [], _∷_, _++_, append-nil}
 use mathlib.Core.Option.{Option, none, some}
+use native.Mathlib.Decide.{decLt}
 use native.Mathlib.Numerals.{add-one}
 use native.Mathlib.Nat.{add-zero}
 use native.Mathlib.Omega.{arith}
 use lib.ListN.{getD}
-use borrow.Author.Tests.{le-leb, eq-eqb, ne-eqb}
+use lib.Seq.{take-nil}
+use borrow.Author.Tests.{le-leb, lt-leb, eq-eqb, ne-eqb}
 use Rattle.layout.specs.Below.{countBelow, lowest}
 use Rattle.layout.proofs.BelowLaws.{lowest-more}
-use Rattle.layout.specs.Checks.{first}
+use Rattle.layout.specs.Checks.{first, answered}
 use Rattle.layout.proofs.ChecksLaws.{answered-zero}
+use Rattle.layout.specs.Entries.{Entry, made, endsFenced}
 use Rattle.layout.specs.Image.{recordsOf, sessionsOf, shapedB, slotWord, occupiedAt}
+use Rattle.layout.specs.Told.{Told, refusal, clean, replayed, numberOf, codeOf, result, refused}
 use Rattle.journal.specs.Log.{unsoundB, countOf, recOf}
 use Rattle.journal.specs.Oldest.{oldestOf}
 use Rattle.journal.proofs.Least.{oldest-is}
 use Rattle.layout.proofs.Says.{says-any, says-not}
 use Rattle.layout.proofs.Shape.{Shaped, says-shaped}
-use Rattle.recovery.specs.Recover.{slotsOf, logAt, unsoundPlace, tiedBelow, tiesB, recoverFault, firstLog, cleanB, replayEntries, recoverEntries, recoverDone, recoverReply}
+use Rattle.recovery.specs.Recover.{slotsOf, logAt, unsoundPlace, tiedBelow, tiesB, recoverFault, firstLog, cleanB, replayEntries, recoverEntries, recoverDone, recoverRefused, recoverReply}
+use Rattle.recovery.specs.Told.{recoverTold}
 use Rattle.recovery.specs.declared.recovering.RecoverAnswer.{RecoverAnswer}
 use Rattle.recovery.specs.declared.recovering.RecoverAnswer.the-variants.{Clean as AnswerClean, Replayed}
 use Rattle.recovery.specs.declared.recovering.RecoverReply.{RecoverReply}
-use Rattle.history.specs.Log.{State, Occupied, Puts, Final, Clean}
-use Rattle.history.specs.Layout.{Home, body, word, view, Good}
-use Rattle.history.specs.Recover.{oldest, applied, from, recover, Attempt, whole as to-end, broken as cut-off, run, attempt, attempts, steps}
-use Rattle.history.proofs.Abstract.{final-clean}
-use Rattle.history.proofs.Choice.{Best, First, best}
+use Rattle.history.specs.Log.{State, Occupied, Puts, Clean, busy}
+use Rattle.history.specs.Layout.{body, word, view, Good}
+use Rattle.history.specs.Recover.{oldest, applied, from, recover, Attempt, whole as to-end, broken as cut-off, run as attemptWith, attempt}
+use Rattle.history.proofs.Choice.{Best, First, best, busy-none}
+use Rattle.history.proofs.Cuts.{made-append, crash-behind, arrived-all, ends-append}
 use Rattle.history.proofs.Denoted.{denoted-first}
-use Rattle.history.proofs.Theorems.{Carries, attempt-carries, attempt-elsewhere, attempts-carry, steps-carry, steps-clean}
-use Rattle.claims.specs.Recovery.{Try, ended, broken, afterTry, afterTries, afterEnded}
+use Rattle.history.proofs.Theorems.{Carries, attempt-carries, attempt-elsewhere, one-fewer}
+use Rattle.claims.specs.Rules.{storeRules}
+use Rattle.claims.specs.Recovery.{replays, afterCalls, afterStop, Attempt as Try, afterAttempt, afterAttempts, afterWhole, Ends}
+use Rattle.claims.proofs.Lists.{lists}
 use Rattle.claims.proofs.SameLog.{same-count, same-rec, same-log, same-sound, sound-passes, Tied, says-tied, Agrees, agrees, same-numbers, same-busy}
 
 -- header and length are right, for N records and M sessions
@@ -38,12 +45,6 @@ pub record Whole (N M : ℕ) (img : List ℕ) : Type 0 where
   pub shaped : shapedB img ≡ true
   pub records : recordsOf img ≡ N
   pub sessions : sessionsOf img ≡ M
-
--- an image that is recovered: recover answers "clean", and each home word is the one that `word` says
-pub record Recovered (N M : ℕ) (word : ℕ → ℕ) (img : List ℕ) : Type 0 where
-  pub whole : Whole N M img
-  pub clean : (len : ℕ) → 48 ≤ len → recoverReply img len .answer ≡ AnswerClean
-  pub words : (i : ℕ) → Home N i → getD img i 0 ≡ word i
 
 -- a test that fails of every number below n finds none
 lowest-all : (p : ℕ → Bool) (n : ℕ) → ((i : ℕ) → i < n → p i ≡ false) → lowest n p ≡ n
@@ -109,13 +110,6 @@ abbrev answerAt : State → Option ℕ → RecoverAnswer
 answerAt s none = AnswerClean
 answerAt s (some p) = Replayed (s .number p)
 
--- the oldest log is replayed, and recover answers with its persist number
-pub record Replays (N M : ℕ) (img : List ℕ) (len : ℕ) : Type 0 where
-  pub slot : ℕ
-  pub chosen : First (2 * M) (view N img) slot
-  pub entries : recoverEntries img len ≡ applied N img slot
-  pub answer : recoverReply img len .answer ≡ Replayed (view N img .number slot)
-
 -- ---- one call
 
 module _ (N M : ℕ) (img : List ℕ) (len : ℕ) (w : Whole N M img) (g : Good N M img) (room : 48 ≤ len) where
@@ -150,27 +144,70 @@ module _ (N M : ℕ) (img : List ℕ) (len : ℕ) (w : Whole N M img) (g : Good 
   unfolding recover
   recover-same = entries-at (oldest (view N img) (2 * M)) (best (view N img) (2 * M))
 
-  -- it answers "clean" where no slot is occupied
-  pub recover-clean : Clean (2 * M) (view N img) → recoverReply img len .answer ≡ AnswerClean
-  recover-clean c = answer-at none c
+-- the number of a result
+abbrev coded : Told → ℕ
+coded (refused k v) = 0
+coded (result x n ws) = codeOf x
 
--- ---- calls in turn
+-- what recover tells where the oldest log stands in slot o
+abbrev pub toldAt : State → Option ℕ → Told
+toldAt s none = clean
+toldAt s (some p) = replayed (s .number p)
 
--- a call of recover as history's attempt, which knows no trace
-abbrev pub attemptOf : Try → Attempt
-attemptOf (ended x) = to-end
-attemptOf (broken x k sel) = cut-off k sel
+module _ (N M : ℕ) (img : List ℕ) (len : ℕ) (w : Whole N M img) (g : Good N M img) where
+  -- with room in the trace it tells this
+  pub tells-at : 48 ≤ len → (o : Option ℕ) → Best (view N img) (2 * M) o → storeRules .recover img len .told ≡ toldAt (view N img) o
+  tells-at room o b = ap recoverTold (answer-at N M img len w g room o b) ∙ go o
+    where
+      go : (o : Option ℕ) → recoverTold (answerAt (view N img) o) ≡ toldAt (view N img) o
+      go none = refl
+      go (some p) = refl
 
--- img is what history's recovery leaves, whole and good
-pub record Same (N M : ℕ) (img expected : List ℕ) : Type 0 where
-  pub equal : img ≡ expected
-  pub whole : Whole N M img
-  pub good : Good N M img
+  -- without, it is refused
+  short : len < 48 → recoverFault img len ≡ 3
+  unfolding recoverFault first
+  short l = rw (w .shaped, lt-leb 48 len l)
+
+  short-entries : len < 48 → recoverEntries img len ≡ []
+  unfolding recoverEntries answered
+  short-entries l = rw (short l) refl
+
+  short-tells : len < 48 → storeRules .recover img len .told ≡ refusal 3
+  unfolding recoverReply recoverRefused answered
+  short-tells l = rw (short l) refl
+
+  -- where it tells "clean" no slot is occupied, and nothing is stored
+  pub clean-told : storeRules .recover img len .told ≡ clean → Clean (2 * M) (view N img) × (recoverEntries img len ≡ [])
+  clean-told e = by-room (decLt len 48)
+    where
+      by-slot : 48 ≤ len → (o : Option ℕ) → Best (view N img) (2 * M) o → Clean (2 * M) (view N img) × (recoverEntries img len ≡ [])
+      by-slot room none b = (b, entries-at N M img len w g room none b)
+      by-slot room (some p) b = absurd (not-clean (sym (tells-at room (some p) b) ∙ e))
+        where
+          not-clean : {p : ℕ} → replayed p ≡ clean → ⊥
+          not-clean e = let z : _≡_ {A = ℕ} 33 32 = ap coded e in omega arith
+
+      by-room : Dec (len < 48) → Clean (2 * M) (view N img) × (recoverEntries img len ≡ [])
+      by-room (yes l) = absurd (let z : _≡_ {A = ℕ} 3 0 = ap numberOf (sym (short-tells l) ∙ e) in omega arith)
+      by-room (no n) = by-slot (omega arith) (oldest (view N img) (2 * M)) (best (view N img) (2 * M))
+
+-- ---- what calls of recover leave
+
+-- img′ is whole and good where img is, and has the same final words
+pub record Follows (N M : ℕ) (img img′ : List ℕ) : Type 0 where
+  pub whole : Whole N M img′
+  pub carries : Carries N M img img′
+
+pub follows-self : (N M : ℕ) (img : List ℕ) → Whole N M img → Good N M img → Follows N M img img
+follows-self N M img w g = record { whole = w; carries = record { good = g; final = λ i x h f. f } }
+
+follows-then : {N M : ℕ} {a b c : List ℕ} → Follows N M a b → Follows N M b c → Follows N M a c
+follows-then p q =
+    record { whole = q .whole; carries = record { good = q .carries .good; final = λ i x h f. q .carries .final i x h (p .carries .final i x h f) } }
 
 module _ (N M : ℕ) (img : List ℕ) (w : Whole N M img) (g : Good N M img) where
-  -- a call, whole or broken off anywhere, keeps header and length
-  pub whole-kept : (a : Attempt) → Whole N M (run a (recover N M img) img)
-  unfolding attempt
+  -- a step of history's recovery, whole or broken off anywhere, keeps header and length
+  whole-kept : (a : Attempt) → Whole N M (attempt N M a img)
   whole-kept a =
       record {
         shaped = says-shaped (attempt N M a img) .no (record {
@@ -194,66 +231,110 @@ module _ (N M : ℕ) (img : List ℕ) (w : Whole N M img) (g : Good N M img) whe
       sessions : sessionsOf (attempt N M a img) ≡ M
       sessions = header 2 (omega arith) ∙ w .sessions
 
-  -- a call leaves what history's attempt leaves
-  attempt-equal : (t : Try) → afterTry recoverEntries t img ≡ attempt N M (attemptOf t) img
-  unfolding afterTry attempt
-  attempt-equal (ended x) = rw (recover-same N M img (48 + x) w g (omega arith))
-  attempt-equal (broken x k sel) = rw (recover-same N M img (48 + x) w g (omega arith))
-
-  -- and leaves the image whole and good
-  pub attempt-same : (t : Try) → Same N M (afterTry recoverEntries t img) (attempt N M (attemptOf t) img)
+  -- a call, whole or broken off anywhere, with a trace of any length
+  pub call-follows : (len : ℕ) (a : Attempt) → Follows N M img (attemptWith a (recoverEntries img len) img)
   unfolding attempt
-  attempt-same t =
-      rw (attempt-equal t)
-      (record { equal = refl; whole = whole-kept (attemptOf t); good = attempt-carries N M img g (attemptOf t) .good })
+  call-follows len a = go (decLt len 48)
+    where
+      nothing : (a : Attempt) → attemptWith a [] img ≡ img
+      nothing to-end = refl
+      nothing (cut-off k sel) = rw (take-nil {A = Entry} k) refl
 
--- so do calls in turn, of which power may fail in any
-pub attempts-same : (N M : ℕ) (tries : List Try) (img : List ℕ) → Whole N M img → Good N M img
-    → Same N M (afterTries recoverEntries tries img) (attempts N M (map attemptOf tries) img)
-unfolding afterTries attempts
-attempts-same N M [] img w g = record { equal = refl; whole = w; good = g }
-attempts-same N M (t ∷ rest) img w g =
-    let s = attempt-same N M img w g t in
-    subst (λ i. Same N M (afterTries recoverEntries rest (afterTry recoverEntries t img)) (attempts N M (map attemptOf rest) i)) (s .equal)
-    (attempts-same N M rest (afterTry recoverEntries t img) (s .whole) (s .good))
+      go : Dec (len < 48) → Follows N M img (attemptWith a (recoverEntries img len) img)
+      go (yes l) = rw (short-entries N M img len w g l, nothing a) (follows-self N M img w g)
+      go (no n) = rw (recover-same N M img len w g (omega arith)) (record { whole = whole-kept a; carries = attempt-carries N M img g a })
 
--- and calls that all come to their end
-pub steps-same : (N M : ℕ) (x : ℕ → ℕ) (n : ℕ) (img : List ℕ) → Whole N M img → Good N M img → Same N M (afterEnded recoverEntries x n img) (steps N M n img)
-unfolding afterEnded steps
-steps-same N M x zero img w g = record { equal = refl; whole = w; good = g }
-steps-same N M x (suc n) img w g =
-    let s = attempt-same N M img w g (ended (x 0)) in
-    rw (← s .equal) (steps-same N M (λ i. x (suc i)) n (afterTry recoverEntries (ended (x 0)) img) (s .whole) (s .good))
+-- ---- calls one after the other
 
--- after any calls, as many that come to their end as there are then occupied slots, or more, recover the image, with the final words it had
-pub recovered : (N M : ℕ) (img : List ℕ) (word : ℕ → ℕ) → Whole N M img → Good N M img
-    → ((i : ℕ) → Home N i → Final (2 * M) (view N img) i (word i))
-    → (tries : List Try) (x : ℕ → ℕ) (n : ℕ) → countBelow (2 * M) (occupiedAt (afterTries recoverEntries tries img) N) ≤ n
-    → Recovered N M word (afterEnded recoverEntries x n (afterTries recoverEntries tries img))
-recovered N M img word w g f tries x n enough =
-    record {
-      whole = b .whole;
-      clean = λ len room. recover-clean N M end len (b .whole) (b .good) room clean;
-      words = λ i h. final-clean (2 * M) (view N end) clean i (word i) (d .final i (word i) h (c .final i (word i) h (f i h)));
-    }
+replays-fenced : (lens : List ℕ) (img : List ℕ) → endsFenced (replays storeRules lens img) ≡ true
+unfolding replays
+replays-fenced [] img = refl
+replays-fenced (len ∷ rest) img = ends-append (recoverEntries img len) _ (lists .recover img len .fenced) (replays-fenced rest _)
+
+pub calls-follow : (N M : ℕ) (lens : List ℕ) (img : List ℕ) → Whole N M img → Good N M img → Follows N M img (afterCalls storeRules lens img)
+unfolding replays
+calls-follow N M [] img w g = follows-self N M img w g
+calls-follow N M (len ∷ rest) img w g =
+    let a = call-follows N M img w g len to-end in
+    let b = calls-follow N M rest (made (recoverEntries img len) img) (a .whole) (a .carries .good) in
+    rw (made-append (recoverEntries img len) (replays storeRules rest (made (recoverEntries img len) img)) img) (follows-then a b)
+
+-- all of their stores arrive
+pub stop-made : (lens : List ℕ) (sel : ℕ → Bool) (img : List ℕ) → afterStop storeRules lens sel img ≡ afterCalls storeRules lens img
+stop-made lens sel img = arrived-all sel (replays storeRules lens img) img (replays-fenced lens img)
+
+-- one call more
+pub calls-more : (lens : List ℕ) (len : ℕ) (img : List ℕ)
+    → afterCalls storeRules (lens ++ (len ∷ [])) img ≡ made (recoverEntries (afterCalls storeRules lens img) len) (afterCalls storeRules lens img)
+unfolding replays
+calls-more [] len img = ap (λ es. made es img) (append-nil (recoverEntries img len))
+calls-more (l ∷ lens) len img =
+    made-append (recoverEntries img l) _ img
+    ∙ calls-more lens len (made (recoverEntries img l) img)
+    ∙ ap (λ i. made (recoverEntries i len) i) (sym (made-append (recoverEntries img l) _ img))
+
+-- ---- attempts
+
+pub attempt-follows : (N M : ℕ) (a : Try) (img : List ℕ) → Whole N M img → Good N M img → Follows N M img (afterAttempt storeRules a img)
+unfolding afterAttempt
+attempt-follows N M a img w g =
+    let b = calls-follow N M (a .whole) img w g in
+    let c = crash-behind (a .entries) (a .arrives) (replays storeRules (a .whole) img) (recoverEntries (afterCalls storeRules (a .whole) img) (a .last)) img (replays-fenced (a .whole) img) in
+    rw (c .1) (follows-then b (call-follows N M (afterCalls storeRules (a .whole) img) (b .whole) (b .carries .good) (a .last) (cut-off (a .entries) (c .0))))
+
+pub attempts-follow : (N M : ℕ) (attempts : List Try) (img : List ℕ) → Whole N M img → Good N M img → Follows N M img (afterAttempts storeRules attempts img)
+unfolding afterAttempts
+attempts-follow N M [] img w g = follows-self N M img w g
+attempts-follow N M (a ∷ rest) img w g =
+    let b = attempt-follows N M a img w g in
+    follows-then b (attempts-follow N M rest (afterAttempt storeRules a img) (b .whole) (b .carries .good))
+
+-- ---- the caller repeats until clean
+
+count-busy : (N M : ℕ) (img : List ℕ) → Whole N M img → countBelow (2 * sessionsOf img) (occupiedAt img (recordsOf img)) ≡ busy (view N img .number) (2 * M)
+count-busy N M img w = rw (w .records, w .sessions) (sym (same-busy N img (2 * M)))
+
+module _ (N M : ℕ) (x : ℕ → ℕ) (img : List ℕ) (w : Whole N M img) (g : Good N M img) where
+  -- at once
+  ends-now : Clean (2 * M) (view N img) → Ends storeRules x img
+  unfolding afterWhole
+  ends-now c =
+      record {
+        calls = 0;
+        few = omega arith;
+        replayed-each = λ i l. absurd (omega arith);
+        then-clean = tells-at N M img (48 + x 0) w g (omega arith) none c;
+      }
+
+  -- a call, and those after it
+  abbrev next : List ℕ
+  next = made (recoverEntries img (48 + x 0)) img
+
+  fewer : (p : ℕ) → First (2 * M) (view N img) p → suc (busy (view N next .number) (2 * M)) ≡ busy (view N img .number) (2 * M)
+  fewer p f = rw (entries-at N M img (48 + x 0) w g (omega arith) (some p) f) (one-fewer N M img g p f)
+
+  ends-after : (p : ℕ) → First (2 * M) (view N img) p → Ends storeRules (λ i. x (suc i)) next → Ends storeRules x img
+  unfolding afterWhole
+  ends-after p f e =
+      record {
+        calls = suc (e .calls);
+        few = omega (arith, e .few, count-busy N M img w, count-busy N M next (call-follows N M img w g (48 + x 0) to-end .whole), fewer p f);
+        replayed-each = λ i l. each i l;
+        then-clean = e .then-clean;
+      }
+    where
+      each : (i : ℕ) → i < suc (e .calls) → (q : ℕ) × (storeRules .recover (afterWhole storeRules x i img) (48 + x i) .told ≡ replayed q)
+      each zero l = (view N img .number p, tells-at N M img (48 + x 0) w g (omega arith) (some p) f)
+      each (suc i) l = e .replayed-each i (omega arith)
+
+pub ends : (n N M : ℕ) (x : ℕ → ℕ) (img : List ℕ) → Whole N M img → Good N M img → busy (view N img .number) (2 * M) ≤ n → Ends storeRules x img
+ends zero N M x img w g h = ends-now N M x img w g (busy-none (view N img .number) (2 * M) (omega arith))
+ends (suc n) N M x img w g h = go (oldest (view N img) (2 * M)) (best (view N img) (2 * M)) (λ b. ends n N M (λ i. x (suc i)) (next N M x img w g) (after .whole) (after .carries .good) b)
   where
-    mid : List ℕ
-    mid = afterTries recoverEntries tries img
+    after : Follows N M img (next N M x img w g)
+    after = call-follows N M img w g (48 + x 0) to-end
 
-    a : Same N M mid (attempts N M (map attemptOf tries) img)
-    a = attempts-same N M tries img w g
-
-    end : List ℕ
-    end = afterEnded recoverEntries x n mid
-
-    b : Same N M end (steps N M n mid)
-    b = steps-same N M x n mid (a .whole) (a .good)
-
-    c : Carries N M img mid
-    c = rw (a .equal) (attempts-carry N M (map attemptOf tries) img g)
-
-    d : Carries N M mid end
-    d = rw (b .equal) (steps-carry N M n mid (a .good))
-
-    clean : Clean (2 * M) (view N end)
-    clean = rw (b .equal) (steps-clean N M n mid (a .good) (omega (arith, enough, same-busy N mid (2 * M))))
+    go : (o : Option ℕ) → Best (view N img) (2 * M) o
+        → (busy (view N (next N M x img w g) .number) (2 * M) ≤ n → Ends storeRules (λ i. x (suc i)) (next N M x img w g)) → Ends storeRules x img
+    go none c ih = ends-now N M x img w g c
+    go (some p) f ih = ends-after N M x img w g p f (ih (omega (arith, fewer N M x img w g p f)))

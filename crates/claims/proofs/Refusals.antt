@@ -1,20 +1,21 @@
 -- Every refusal, by the shape that the calls share.
 use Prim.Native.Nat.{ℕ, zero, suc, _-_}
-use mathlib.Core.Bool.{Bool, true, false, cond}
-use mathlib.Core.Path.{_≡_, refl, ap, _∙_}
-use mathlib.Core.List.{List}
+use mathlib.Core.Bool.{Bool, true, false, _&&_, not, cond}
+use mathlib.Core.Path.{_≡_, refl, sym, ap, _∙_}
+use mathlib.Core.List.{List, [], _∷_}
 use lib.Dec.{eqb, ltb}
 use lib.ListN.{length}
-use borrow.Author.Tests.{eqb-true}
+use borrow.Author.Tests.{eqb-true, not-true}
 use Rattle.layout.specs.Checks.{answered}
 use Rattle.layout.proofs.ChecksLaws.{answered-not}
 use Rattle.layout.specs.Entries.{Entry, made, listed}
 use Rattle.layout.specs.Lay.{layFault, layAnswer, laidImage, emptyImage}
-use Rattle.layout.specs.Told.{Told, refusal, layTold}
+use Rattle.layout.specs.Tidy.{Tidy}
+use Rattle.layout.specs.Told.{Told, refused, refusal, numberOf, valueOf, layTold}
 use Rattle.layout.specs.declared.laying.LayAnswer.{LayAnswer}
 use Rattle.layout.specs.declared.laying.LayAnswer.the-variants.{Refused as LayRefused, Laid}
-use Rattle.layout.proofs.Says.{by-test}
-use Rattle.desk.specs.Desk.{sessionAt, markAt, dropped}
+use Rattle.layout.proofs.Says.{by-test, says-and, says-itself}
+use Rattle.desk.specs.Desk.{sessionAt, markAt, isIdle, isActive, isSealed, dropped}
 use Rattle.desk.specs.Begin.{beginFault, beginRefused, begun, beginReply}
 use Rattle.desk.specs.Abandon.{abandonFault, abandonRefused, abandoned, abandonReply}
 use Rattle.desk.specs.Publish.{publishFault, publishRefused, published, publishReply}
@@ -22,139 +23,176 @@ use Rattle.desk.specs.Told.{beginTold, abandonTold, publishTold}
 use Rattle.desk.specs.declared.begin.BeginReply.{BeginReply}
 use Rattle.desk.specs.declared.abandon.AbandonReply.{AbandonReply}
 use Rattle.desk.specs.declared.publish.PublishReply.{PublishReply}
+use Rattle.desk.specs.declared.state.Desk.{Desk}
 use Rattle.snapshot.specs.Own.{ownPlace}
-use Rattle.recovery.specs.Open.{openFault, openRefused, opened, openReply, freshDesk}
 use Rattle.snapshot.specs.Read.{copyShown, startOf, readFault, readRefused, readDone, readReply}
-use Rattle.snapshot.specs.Write.{writeSays, writeFault, writeRefused, writeDone, writeReply}
-use Rattle.commit.specs.Finish.{finishFault, finishRefused, finishDone, finishReply}
-use Rattle.commit.specs.Settle.{settleFault, settleRefused, settleDone, waitsB, settleReply}
-use Rattle.commit.specs.Reclaim.{reclaimFault, reclaimRefused, reclaimDone, noneLeft, heldB, reclaimReply}
-use Rattle.recovery.specs.Recover.{unsoundPlace, recoverFault, recoverRefused, recoverDone, cleanB, recoverReply}
-use Rattle.recovery.specs.Told.{openTold, recoverTold}
+use Rattle.snapshot.specs.Write.{writeSays, writeRefused, writeDone, writeReply}
 use Rattle.snapshot.specs.Told.{readTold, writeTold}
-use Rattle.commit.specs.Told.{finishTold, settleTold, reclaimTold}
-use Rattle.layout.specs.Tidy.{Tidy}
-use Rattle.recovery.specs.declared.opening.OpenReply.{OpenReply}
 use Rattle.snapshot.specs.declared.reading.ReadReply.{ReadReply}
 use Rattle.snapshot.specs.declared.writing.WriteReply.{WriteReply}
 use Rattle.snapshot.specs.declared.writing.WriteAnswer.the-variants.{Refused as WriteRefused}
+use Rattle.commit.specs.Finish.{finishRefused, finishDone, finishReply}
+use Rattle.commit.specs.Settle.{settleRefused, settleDone, waitsB, settleReply}
+use Rattle.commit.specs.Reclaim.{reclaimRefused, reclaimDone, noneLeft, heldB, reclaimReply}
+use Rattle.commit.specs.Told.{finishTold, settleTold, reclaimTold}
 use Rattle.commit.specs.declared.finishing.FinishReply.{FinishReply}
 use Rattle.commit.specs.declared.settling.SettleReply.{SettleReply}
 use Rattle.commit.specs.declared.reclaiming.ReclaimReply.{ReclaimReply}
+use Rattle.recovery.specs.Open.{openRefused, opened, openReply}
+use Rattle.recovery.specs.Recover.{unsoundPlace, recoverRefused, recoverDone, cleanB, recoverReply}
+use Rattle.recovery.specs.Told.{openTold, recoverTold}
+use Rattle.recovery.specs.declared.opening.OpenReply.{OpenReply}
 use Rattle.recovery.specs.declared.recovering.RecoverReply.{RecoverReply}
 use Rattle.recovery.specs.declared.recovering.RecoverAnswer.the-variants.{Refused as RecoverRefused}
+use Rattle.history.specs.Call.{Call, begin, read, write, abandon, finish, publish, settle, reclaim}
 use Rattle.claims.proofs.Lists.{lists}
-use Rattle.claims.specs.Refusals.{TurnedAway, StoresNothing, only, Refusals}
+use Rattle.claims.proofs.Rows.{desk-row, lay-row, open-row, recover-row, finish-row, settle-row, reclaim-row, read-row, write-row}
+use Rattle.claims.specs.Rules.{storeRules}
+use Rattle.claims.specs.Refusals.{Cause, number, holds, Given, firstOf, recoverRow, row, ofImage, given, only, TurnedAway, StoresNothing, Refusals}
 
--- a call, by what it tells and leaves: its refusals tell their number and value and leave what is to be kept, and past its checks the number is 0
-turned : {A B : Type 0} (told : B → Told) (left : B → A) (value : ℕ → ℕ) (kept : ℕ → A) (fault : ℕ) (refused : ℕ → B) (done : B)
-    → ((k : ℕ) → told (refused k) ≡ record { number = k; value = value k }) → ((k : ℕ) → left (refused k) ≡ kept k) → told done .number ≡ 0
-    → TurnedAway fault (value fault) (told (answered fault refused done)) (left (answered fault refused done)) (kept fault)
+-- a call whose fault is k: its refusal by k tells k and this value and leaves what is to be kept, and past its checks the number is 0
+turned : {A B : Type 0} (told : B → Told) (left : B → A) (refusal : ℕ → B) (done : B) {fault k value : ℕ} {kept : A} → fault ≡ k
+    → told (refusal k) ≡ refused k value → left (refusal k) ≡ kept → numberOf (told done) ≡ 0
+    → TurnedAway (told (answered fault refusal done)) k value (left (answered fault refusal done)) kept
 unfolding answered
-turned told left value kept zero refused done t l z = record { number = z; tells = λ n. absurd (n refl); leaves = λ n. absurd (n refl) }
-turned told left value kept (suc k) refused done t l z =
-    record { number = ap (λ (x : Told). x .number) (t (suc k)); tells = λ n. ap (λ (x : Told). x .value) (t (suc k)); leaves = λ n. l (suc k) }
-
--- its refusals have no value, and leave one thing
-plain : {A B : Type 0} (told : B → Told) (left : B → A) (kept : A) (fault : ℕ) (refused : ℕ → B) (done : B)
-    → ((k : ℕ) → told (refused k) ≡ refusal k) → ((k : ℕ) → left (refused k) ≡ kept) → told done .number ≡ 0
-    → TurnedAway fault 0 (told (answered fault refused done)) (left (answered fault refused done)) kept
-plain told left kept = turned told left (λ k. 0) (λ k. kept)
+turned told left refusal done {fault} {k} {value} {kept} e t l z = rw e (go k t l)
+  where
+    go : (k : ℕ) → told (refusal k) ≡ refused k value → left (refusal k) ≡ kept
+        → TurnedAway (told (answered k refusal done)) k value (left (answered k refusal done)) kept
+    go zero t l = record { number-is = z; tells = λ n. absurd (n refl); leaves = λ n. absurd (n refl) }
+    go (suc k) t l = record { number-is = ap numberOf t; tells = λ n. ap valueOf t; leaves = λ n. l }
 
 -- something else is left
-leaving : {A B : Type 0} {fault value : ℕ} {told : Told} {x y : A} {left kept : B}
-    → TurnedAway fault value told x y → ((fault ≡ 0 → ⊥) → left ≡ kept) → TurnedAway fault value told left kept
-leaving t l = record { number = t .number; tells = t .tells; leaves = l }
+leaving : {A B : Type 0} {told : Told} {k value : ℕ} {x y : A} {left kept : B}
+    → TurnedAway told k value x y → ((k ≡ 0 → ⊥) → left ≡ kept) → TurnedAway told k value left kept
+leaving t l = record { number-is = t .number-is; tells = t .tells; leaves = l }
 
 -- one of two results
-either : {B : Type 0} (told : B → Told) (b : Bool) (x y : B) → told x .number ≡ 0 → told y .number ≡ 0 → told (cond b x y) .number ≡ 0
+either : {B : Type 0} (told : B → Told) (b : Bool) (x y : B) → numberOf (told x) ≡ 0 → numberOf (told y) ≡ 0 → numberOf (told (cond b x y)) ≡ 0
 either told true x y p q = p
 either told false x y p q = q
 
 -- a refusal that alone has a value
 valued : {B : Type 0} (told : B → Told) (number value : ℕ) (this : B) (other : ℕ → B)
-    → told this ≡ record { number = number; value = value } → ((k : ℕ) → told (other k) ≡ refusal k)
-    → (k : ℕ) → told (cond (eqb k number) this (other k)) ≡ record { number = k; value = only number value 0 k }
+    → told this ≡ refused number value → ((k : ℕ) → told (other k) ≡ refusal k)
+    → (k : ℕ) → told (cond (eqb k number) this (other k)) ≡ refused k (only number value 0 k)
 valued told number value this other t o k = by-test (eqb k number) (λ e. rw (e, eqb-true k number e) t) (λ e. rw e (o k))
 
+-- no cause of the row has the number 7
+abbrev sparing : List Cause → Bool
+sparing [] = true
+sparing (c ∷ row) = not (eqb (number c) 7) && sparing row
+
+not-seven : (row : List Cause) (g : Given) → sparing row ≡ true → eqb (firstOf row g) 7 ≡ false
+unfolding firstOf
+not-seven [] g e = refl
+not-seven (c ∷ row) g e =
+    let h = says-and (says-itself (not (eqb (number c) 7))) (says-itself (sparing row)) .yes e in go (holds c g) (h .0) (not-seven row g (h .1))
+  where
+    go : (b : Bool) → not (eqb (number c) 7) ≡ true → eqb (firstOf row g) 7 ≡ false → eqb (cond b (number c) (firstOf row g)) 7 ≡ false
+    go true x y = not-true _ x
+    go false x y = y
+
+-- what the claim says of a session call
+abbrev CallTurned : List ℕ → Desk → Call → Told → Desk → Type 0
+CallTurned img d c told left =
+    TurnedAway told (firstOf (row c) (given img d c)) (only 7 (markAt d (given img d c .rec) - 1) 0 (firstOf (row c) (given img d c)))
+    left (only 7 (dropped d (given img d c .session)) d (firstOf (row c) (given img d c)))
+
+-- a session call without refusal 7: its refusals have no value and leave the desk
+plain : {B : Type 0} (img : List ℕ) (d : Desk) (c : Call) (told : B → Told) (left : B → Desk) (refusing : ℕ → B) (done : B) {fault : ℕ}
+    → fault ≡ firstOf (row c) (given img d c) → sparing (row c) ≡ true
+    → ((k : ℕ) → told (refusing k) ≡ refusal k) → ((k : ℕ) → left (refusing k) ≡ d) → numberOf (told done) ≡ 0
+    → CallTurned img d c (told (answered fault refusing done)) (left (answered fault refusing done))
+plain img d c told left refusing done e free t l z =
+    let k = firstOf (row c) (given img d c) in
+    rw (not-seven (row c) (given img d c) free) (turned told left refusing done e (t k) (l k) z)
+
 -- by the laws of the lists
-stores-nothing : {fault count : ℕ} {es : List Entry} → Tidy fault count es → (fault ≡ 0 → ⊥) → StoresNothing count es
-stores-nothing t n =
+stores-nothing : {fault k count : ℕ} {es : List Entry} → fault ≡ k → Tidy fault count es → (k ≡ 0 → ⊥) → StoresNothing count es
+stores-nothing e t n =
+    let nil = t .refused (λ z. n (sym e ∙ z)) in
     record {
-      none = t .counted ∙ ap length (t .refused n);
-      entries = t .refused n;
-      image = λ img. ap (λ es. made es img) (t .refused n);
-      trace = λ trace. ap (λ es. listed es trace) (t .refused n);
+      none = t .counted ∙ ap length nil;
+      entries = nil;
+      image = λ img. ap (λ es. made es img) nil;
+      trace = λ trace. ap (λ es. listed es trace) nil;
     }
 
+-- of a call that stores nothing in any case
+no-stores : StoresNothing 0 []
+no-stores = record { none = refl; entries = refl; image = λ img. refl; trace = λ trace. refl }
+
+calls : (img : List ℕ) (d : Desk) (c : Call) → CallTurned img d c (storeRules .call img d c .told) (storeRules .call img d c .desk)
+unfolding beginReply beginFault abandonReply abandonFault publishReply publishFault readReply writeReply writeRefused finishReply settleReply reclaimReply
+calls img d (begin s) =
+    plain img d (begin s) (λ (r : BeginReply). beginTold (r .answer)) (λ r. r .desk) (beginRefused d) (begun d s)
+    (desk-row img d s isIdle) refl (λ k. refl) (λ k. refl) refl
+calls img d (abandon s) =
+    plain img d (abandon s) (λ (r : AbandonReply). abandonTold (r .answer)) (λ r. r .desk) (abandonRefused d) (abandoned d s)
+    (desk-row img d s isActive) refl (λ k. refl) (λ k. refl) refl
+calls img d (publish s) =
+    plain img d (publish s) (λ (r : PublishReply). publishTold (r .answer)) (λ r. r .desk) (publishRefused d) (published d s)
+    (desk-row img d s isSealed) refl (λ k. refl) (λ k. refl) refl
+calls img d (read s r) =
+    let told : ReadReply → Told = λ x. readTold (x .answer) (x .words) in
+    plain img d (read s r) told (λ x. x .desk) (readRefused d) (readDone img d s r) (read-row img d s r) refl (λ k. refl) (λ k. refl)
+    (either told (ltb (ownPlace (sessionAt d s) r) 4) _ _ refl (either told (copyShown d (startOf (sessionAt d s .phase)) r) _ _ refl refl))
+calls img d (write s r ws) =
+    let told : WriteReply → Told = λ x. writeTold (x .answer) in
+    let k = firstOf (row (write s r ws)) (given img d (write s r ws)) in
+    turned told (λ x. x .desk) (writeRefused d s r) (writeDone img d s r ws) (write-row img d s r ws)
+    (valued told 7 (markAt d r - 1) _ (λ k. writeSays d (WriteRefused k)) refl (λ k. refl) k) (by-test (eqb k 7) (λ e. rw e) (λ e. rw e)) refl
+calls img d (finish len s) =
+    let told : FinishReply → Told = λ r. finishTold (r .answer) in
+    plain img d (finish len s) told (λ r. r .desk) (finishRefused d) (finishDone d s) (finish-row img d len s) refl (λ k. refl) (λ k. refl)
+    (either told (eqb (sessionAt d s .count) 0) _ _ refl refl)
+calls img d (settle len s) =
+    let told : SettleReply → Told = λ r. settleTold (r .answer) in
+    plain img d (settle len s) told (λ r. r .desk) (settleRefused d) (settleDone d s) (settle-row img d len s) refl (λ k. refl) (λ k. refl)
+    (either told (waitsB d s) _ _ refl refl)
+calls img d (reclaim len s) =
+    let told : ReclaimReply → Told = λ r. reclaimTold (r .answer) in
+    plain img d (reclaim len s) told (λ r. r .desk) (reclaimRefused d) (reclaimDone img d s) (reclaim-row img d len s) refl (λ k. refl) (λ k. refl)
+    (either told (noneLeft img d s) _ _ refl (either told (heldB img d s) _ _ refl refl))
+
+calls-store : (img : List ℕ) (d : Desk) (c : Call) → (firstOf (row c) (given img d c) ≡ 0 → ⊥)
+    → StoresNothing (storeRules .call img d c .count) (storeRules .call img d c .entries)
+calls-store img d (begin s) n = no-stores
+calls-store img d (read s r) n = no-stores
+calls-store img d (write s r ws) n = no-stores
+calls-store img d (abandon s) n = no-stores
+calls-store img d (publish s) n = no-stores
+calls-store img d (finish len s) n = stores-nothing (finish-row img d len s) (lists .finish img d len s) n
+calls-store img d (settle len s) n = stores-nothing (settle-row img d len s) (lists .settle img d len s) n
+calls-store img d (reclaim len s) n = stores-nothing (reclaim-row img d len s) (lists .reclaim img d len s) n
+
 pub refusals : Refusals
-unfolding layAnswer laidImage openReply beginReply abandonReply publishReply readReply writeReply writeRefused finishReply settleReply reclaimReply recoverReply recoverRefused
+unfolding layAnswer laidImage openReply readReply recoverReply recoverRefused unsoundPlace
 refusals =
     record {
       lay = λ n m img.
-          leaving (plain layTold (λ (a : LayAnswer). img) img (layFault n m (length img)) LayRefused Laid (λ k. refl) (λ k. refl) refl)
-          (answered-not (layFault n m (length img)) (λ k. img) (emptyImage n m));
-      opens = λ img. plain open-told (λ r. r .desk) (freshDesk 0 0 0) (openFault img) openRefused (opened img) (λ k. refl) (λ k. refl) refl;
-      begin = λ d s. plain begin-told (λ r. r .desk) d (beginFault d s) (beginRefused d) (begun d s) (λ k. refl) (λ k. refl) refl;
-      abandon = λ d s. plain abandon-told (λ r. r .desk) d (abandonFault d s) (abandonRefused d) (abandoned d s) (λ k. refl) (λ k. refl) refl;
-      publish = λ d s. plain publish-told (λ r. r .desk) d (publishFault d s) (publishRefused d) (published d s) (λ k. refl) (λ k. refl) refl;
-      read = λ img d s r.
-          plain read-told (λ x. x .desk) d (readFault img d s r) (readRefused d) (readDone img d s r) (λ k. refl) (λ k. refl)
-          (either read-told (ltb (ownPlace (sessionAt d s) r) 4) _ _ refl (either read-told (copyShown d (startOf (sessionAt d s .phase)) r) _ _ refl refl));
-      finish = λ img d len s.
-          plain finish-told (λ r. r .desk) d (finishFault img d len s) (finishRefused d) (finishDone d s) (λ k. refl) (λ k. refl)
-          (either finish-told (eqb (sessionAt d s .count) 0) _ _ refl refl);
-      settle = λ img d len s.
-          plain settle-told (λ r. r .desk) d (settleFault img d len s) (settleRefused d) (settleDone d s) (λ k. refl) (λ k. refl)
-          (either settle-told (waitsB d s) _ _ refl refl);
-      reclaim = λ img d len s.
-          plain reclaim-told (λ r. r .desk) d (reclaimFault img d len s) (reclaimRefused d) (reclaimDone img d s) (λ k. refl) (λ k. refl)
-          (either reclaim-told (noneLeft img d s) _ _ refl (either reclaim-told (heldB img d s) _ _ refl refl));
-      write = λ img d s r ws.
-          turned write-told (λ x. x .desk) (only 7 (markAt d r - 1) 0) (only 7 (dropped d s) d) (writeFault img d s r) (writeRefused d s r) (writeDone img d s r ws)
-          (valued write-told 7 (markAt d r - 1) _ (λ k. writeSays d (WriteRefused k)) refl (λ k. refl))
-          (λ k. by-test (eqb k 7) (λ e. rw e) (λ e. rw e))
-          refl;
+          leaving (turned layTold (λ (a : LayAnswer). img) LayRefused Laid (lay-row n m img) refl refl refl)
+          (λ z. answered-not (layFault n m (length img)) (λ k. img) (emptyImage n m) (λ y. z (sym (lay-row n m img) ∙ y)));
+      opens = λ img. turned open-told (λ r. r .desk) openRefused (opened img) (open-row img) refl refl refl;
+      calls = calls;
       recover = λ img len.
+          let k = firstOf recoverRow (ofImage img len 0 0) in
           leaving
-          (turned recover-told (λ r. img) (only 12 (unsoundPlace img) 0) (λ k. img) (recoverFault img len) (recoverRefused img) (recoverDone img)
-          (valued recover-told 12 (unsoundPlace img) _ (λ k. record { answer = RecoverRefused k; entries = 0 }) refl (λ k. refl))
-          (λ k. refl)
+          (turned recover-told (λ r. img) (recoverRefused img) (recoverDone img) (recover-row img len)
+          (valued recover-told 12 (unsoundPlace img) _ (λ k. record { answer = RecoverRefused k; entries = 0 }) refl (λ k. refl) k)
+          refl
           (either recover-told (cleanB img) _ _ refl refl))
-          (λ n. ap (λ es. made es img) (lists .recover img len .refused n));
-      read-words = λ img d s r n. ap (λ (x : ReadReply). x .words) (answered-not (readFault img d s r) (readRefused d) (readDone img d s r) n);
-      finish-stores = λ img d len s. stores-nothing (lists .finish img d len s);
-      settle-stores = λ img d len s. stores-nothing (lists .settle img d len s);
-      reclaim-stores = λ img d len s. stores-nothing (lists .reclaim img d len s);
-      recover-stores = λ img len. stores-nothing (lists .recover img len);
+          (λ n. stores-nothing (recover-row img len) (lists .recover img len) n .image img);
+      read-words = λ img d s r n.
+          ap (λ (x : ReadReply). x .words)
+          (answered-not (readFault img d s r) (readRefused d) (readDone img d s r) (λ z. n (sym (read-row img d s r) ∙ z)));
+      calls-store = calls-store;
+      recover-stores = λ img len. stores-nothing (recover-row img len) (lists .recover img len);
     }
   where
     open-told : OpenReply → Told
     open-told r = openTold (r .answer)
-
-    begin-told : BeginReply → Told
-    begin-told r = beginTold (r .answer)
-
-    abandon-told : AbandonReply → Told
-    abandon-told r = abandonTold (r .answer)
-
-    publish-told : PublishReply → Told
-    publish-told r = publishTold (r .answer)
-
-    read-told : ReadReply → Told
-    read-told r = readTold (r .answer)
-
-    write-told : WriteReply → Told
-    write-told r = writeTold (r .answer)
-
-    finish-told : FinishReply → Told
-    finish-told r = finishTold (r .answer)
-
-    settle-told : SettleReply → Told
-    settle-told r = settleTold (r .answer)
-
-    reclaim-told : ReclaimReply → Told
-    reclaim-told r = reclaimTold (r .answer)
 
     recover-told : RecoverReply → Told
     recover-told r = recoverTold (r .answer)

@@ -12,7 +12,7 @@ use lib.Dec.{eqb}
 use lib.ListN.{getD, drop}
 use lib.Seq.{getD-take, getD-drop}
 use Rattle.layout.specs.Below.{countBelow}
-use Rattle.layout.specs.Image.{slotWord, persistAt, occupiedAt}
+use Rattle.layout.specs.Image.{slotAt, slotWord, persistAt, occupiedAt}
 use Rattle.journal.specs.Log.{Slot, countOf, recOf, wordsOf, denoted as denotedOf, unsoundB, tiedB, sharedB}
 use Rattle.layout.specs.Homes.{homesWrites}
 use Rattle.journal.specs.declared.scan.Oldest.{Oldest}
@@ -20,14 +20,14 @@ use Rattle.layout.proofs.Says.{Says, says-lt, says-eq, says-ne, says-and, says-
 use Rattle.journal.proofs.Least.{Least}
 use Rattle.journal.proofs.LogFacts.{Sound as SoundSlot, says-unsound}
 use Rattle.history.specs.Log.{State, busy}
-use Rattle.history.specs.Layout.{base, body, count, rec, word, copy, copies, denoted, view, Sound}
+use Rattle.history.specs.Layout.{body, count, rec, word, copy, copies, denoted, view, Sound}
 use Rattle.history.proofs.Choice.{Best}
 
 module _ (N : ℕ) (img : List ℕ) (p : ℕ) where
   -- the body is the slot's words behind its persist number
   body-word : (j : ℕ) → j < 21 → getD (body N img p) j 0 ≡ slotWord img N p (1 + j)
   body-word j l =
-      getD-take 21 (drop (base N p + 1) img) j 0 l ∙ getD-drop (base N p + 1) img j 0 ∙ ap (λ i. getD img i 0) (omega arith)
+      getD-take 21 (drop (slotAt N p + 1) img) j 0 l ∙ getD-drop (slotAt N p + 1) img j 0 ∙ ap (λ i. getD img i 0) (omega arith)
 
   -- the count of copies
   pub same-count : count (body N img p) ≡ countOf (slotWord img N p)

@@ -21,22 +21,15 @@ use Rattle.desk.specs.declared.begin.BeginReply.{BeginReply}
 use Rattle.desk.specs.declared.abandon.AbandonReply.{AbandonReply}
 use Rattle.desk.specs.declared.publish.PublishReply.{PublishReply}
 use Rattle.desk.proofs.Facts.{SessionIn}
+use Rattle.layout.specs.Told.{refusal, ok, start}
+use Rattle.desk.specs.Told.{beginTold, abandonTold, publishTold}
+use Rattle.history.specs.Call.{begin, abandon, publish}
 use Rattle.history.specs.Desk.{active}
-use Rattle.history.specs.History.{begin, abandon, publish, refused, ok, start}
-use Rattle.history.specs.Calls.{Reply, refuse, begins, abandons, publishes, reply}
+use Rattle.history.specs.Due.{Due, refuse, begins, abandons, publishes, dueOf}
+use Rattle.history.specs.History.{History}
 use Rattle.claims.proofs.Abstraction.{abs, pack, copiesOf, txn-of, abs-put}
-use Rattle.claims.proofs.Simulation.{Sim, Ready, begin-said, abandon-said, publish-said}
+use Rattle.claims.proofs.Simulation.{Sim, Ready}
 use Rattle.claims.proofs.Entering.{desk-check, session-small, session-there, told, entered, emptied}
-
--- the reply of a call and the abstract one
-abbrev BeginSim : BeginReply → Reply → Type 0
-BeginSim x y = Sim (begin-said (x .answer)) [] (x .desk) y
-
-abbrev AbandonSim : AbandonReply → Reply → Type 0
-AbandonSim x y = Sim (abandon-said (x .answer)) [] (x .desk) y
-
-abbrev PublishSim : PublishReply → Reply → Type 0
-PublishSim x y = Sim (publish-said (x .answer)) [] (x .desk) y
 
 -- an idle session in order has no copies, and no slot
 idle-empty : (clock n : ℕ) (e : Session) → SessionIn clock n e → e .phase ≡ Idle → (b : ℕ) → pack (withPhase e (Active b)) ≡ active b 0 []
@@ -45,55 +38,66 @@ idle-empty clock n e h i b =
     let low : e .slot ≡ 0 = ⊎-elim (λ l. absurd (omega arith)) (λ z. z) (h .slot-none) in
     rw (none, low)
 
-module _ (N M : ℕ) (img : List ℕ) (d : Desk) (s : ℕ) (h : Ready N M img d) where
+module _ (N M : ℕ) (img : List ℕ) (d : Desk) (s : ℕ) (f : ℕ → ℕ) (k : History) (h : Ready N M img d) where
   -- the session's entry
   abbrev e : Session
   e = sessionAt d s
 
+  -- what is due of a reply
+  abbrev BeginSim : BeginReply → Due → Type 0
+  BeginSim x y = Sim (begin s) f d (beginTold (x .answer)) [] (x .desk) y
+
+  abbrev AbandonSim : AbandonReply → Due → Type 0
+  AbandonSim x y = Sim (abandon s) f d (abandonTold (x .answer)) [] (x .desk) y
+
+  abbrev PublishSim : PublishReply → Due → Type 0
+  PublishSim x y = Sim (publish s) f d (publishTold (x .answer)) [] (x .desk) y
+
   -- begin takes the clock as the start
-  pub begin-sim : Sim (begin-said (beginReply d s .answer)) [] (beginReply d s .desk) (reply N M img (abs d) (begin s))
+  pub begin-sim : BeginSim (beginReply d s) (dueOf N M f (abs d) k (begin s))
   unfolding beginReply beginFault answered first
   begin-sim = rw (desk-check N M img d h s) (go (leb M s) (leb-false M s) (e .phase) refl)
     where
       go : (over : Bool) → (over ≡ false → s < M) → (p : Phase) → e .phase ≡ p
           → BeginSim (answered (first (cond over 4 0) (unless (isIdle p) 6)) (beginRefused d) (begun d s))
-          (cond over (refuse 4 (abs d)) (begins (abs d) s (txn-of p (e .slot) (copiesOf e))))
-      go true b p i = told (refused 4) d
+          (cond over (refuse 4) (begins (d .clock) (txn-of p (e .slot) (copiesOf e))))
+      go true b p i = told (begin s) f d (refusal 4) refl
       go false b Idle i =
-          entered (start (d .clock)) d s (withPhase e (Active (d .clock))) (d .holders) _ (session-there N M img d h s (b refl))
+          entered (begin s) f d (start (d .clock)) s (withPhase e (Active (d .clock))) (d .holders) _ (session-there N M img d h s (b refl))
           (idle-empty (d .clock) (d .n) e (h .coherent .session s (session-small N M img d h s (b refl))) i (d .clock))
-      go false b (Active n) i = told (refused 6) d
-      go false b (Sealed n) i = told (refused 6) d
-      go false b (Published n) i = told (refused 6) d
+          refl
+      go false b (Active n) i = told (begin s) f d (refusal 6) refl
+      go false b (Sealed n) i = told (begin s) f d (refusal 6) refl
+      go false b (Published n) i = told (begin s) f d (refusal 6) refl
 
   -- abandon leaves the session idle
-  pub abandon-sim : Sim (abandon-said (abandonReply d s .answer)) [] (abandonReply d s .desk) (reply N M img (abs d) (abandon s))
+  pub abandon-sim : AbandonSim (abandonReply d s) (dueOf N M f (abs d) k (abandon s))
   unfolding abandonReply abandonFault answered first
   abandon-sim = rw (desk-check N M img d h s) (go (leb M s) (leb-false M s) (e .phase))
     where
       go : (over : Bool) → (over ≡ false → s < M) → (p : Phase)
           → AbandonSim (answered (first (cond over 4 0) (unless (isActive p) 6)) (abandonRefused d) (abandoned d s))
-          (cond over (refuse 4 (abs d)) (abandons (abs d) s (txn-of p (e .slot) (copiesOf e))))
-      go true b p = told (refused 4) d
-      go false b Idle = told (refused 6) d
-      go false b (Active n) = emptied ok d s (session-there N M img d h s (b refl))
-      go false b (Sealed n) = told (refused 6) d
-      go false b (Published n) = told (refused 6) d
+          (cond over (refuse 4) (abandons (txn-of p (e .slot) (copiesOf e))))
+      go true b p = told (abandon s) f d (refusal 4) refl
+      go false b Idle = told (abandon s) f d (refusal 6) refl
+      go false b (Active n) = emptied (abandon s) f d ok s (session-there N M img d h s (b refl)) refl
+      go false b (Sealed n) = told (abandon s) f d (refusal 6) refl
+      go false b (Published n) = told (abandon s) f d (refusal 6) refl
 
   -- publish moves the clock on by one and takes it as the end
-  pub publish-sim : Sim (publish-said (publishReply d s .answer)) [] (publishReply d s .desk) (reply N M img (abs d) (publish s))
+  pub publish-sim : PublishSim (publishReply d s) (dueOf N M f (abs d) k (publish s))
   unfolding publishReply publishFault answered first
-  publish-sim = rw (desk-check N M img d h s) (go (leb M s) (leb-false M s) (e .phase))
+  publish-sim = rw (desk-check N M img d h s) (go (leb M s) (leb-false M s) (e .phase) refl)
     where
-      go : (over : Bool) → (over ≡ false → s < M) → (p : Phase)
+      go : (over : Bool) → (over ≡ false → s < M) → (p : Phase) → e .phase ≡ p
           → PublishSim (answered (first (cond over 4 0) (unless (isSealed p) 6)) (publishRefused d) (published d s))
-          (cond over (refuse 4 (abs d)) (publishes (abs d) s (txn-of p (e .slot) (copiesOf e))))
-      go true b p = told (refused 4) d
-      go false b Idle = told (refused 6) d
-      go false b (Active n) = told (refused 6) d
-      go false b (Sealed n) = record {
+          (cond over (refuse 4) (publishes (d .clock) (txn-of p (e .slot) (copiesOf e))))
+      go true b p i = told (publish s) f d (refusal 4) refl
+      go false b Idle i = told (publish s) f d (refusal 6) refl
+      go false b (Active n) i = told (publish s) f d (refusal 6) refl
+      go false b (Sealed n) i = record {
         answers = rw add-one;
         stored = refl;
-        desk = rw add-one (abs-put d (suc (d .clock)) (d .n) (d .m) s (withPhase e (Published (suc (d .clock)))) (d .holders) (session-there N M img d h s (b refl)));
+        desk = rw (add-one, i) (abs-put d (suc (d .clock)) (d .n) (d .m) s (withPhase e (Published (suc (d .clock)))) (d .holders) (session-there N M img d h s (b refl)));
       }
-      go false b (Published n) = told (refused 6) d
+      go false b (Published n) i = told (publish s) f d (refusal 6) refl

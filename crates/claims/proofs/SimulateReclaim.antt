@@ -1,4 +1,4 @@
--- Reclaim on the desk of arrays does what the abstract reclaim does.
+-- Reclaim gives what is due.
 use Prim.Native.Nat.{ℕ, zero, suc, _*_, _≤_, _<_}
 use mathlib.Core.Path.{_≡_, refl, sym, _∙_}
 use mathlib.Core.Logic.{_≢_}
@@ -10,7 +10,7 @@ use native.Mathlib.Omega.{arith}
 use lib.Dec.{eqb, leb, ltb}
 use borrow.Author.Tests.{eqb-true, eqb-false, eq-eqb, ne-eqb, leb-true, leb-false, le-ltb, lt-ltb}
 use Rattle.layout.specs.Checks.{first, answered}
-use Rattle.layout.specs.Image.{slotAt, persistAt}
+use Rattle.layout.specs.Image.{placeOf, slotAt, persistAt}
 use Rattle.journal.specs.Oldest.{oldestOf}
 use Rattle.journal.specs.declared.scan.Oldest.{Oldest}
 use Rattle.journal.proofs.Least.{oldest-is}
@@ -23,19 +23,20 @@ use Rattle.desk.specs.declared.state.Desk.{Desk}
 use Rattle.desk.specs.Entering.{imageFault}
 use Rattle.layout.specs.Checks.{roomFor}
 use Rattle.commit.specs.Reclaim.{reclaimFault, reclaimEntries, inUse, settledNumber, chosen, noneLeft, heldB, clearEntries, reclaimRefused, reclaimDone, reclaimReply}
-use Rattle.commit.specs.declared.reclaiming.ReclaimAnswer.the-variants.{Refused}
 use Rattle.commit.specs.declared.reclaiming.ReclaimReply.{ReclaimReply}
-use Rattle.history.specs.Log.{State}
-use Rattle.history.specs.Layout.{view}
-use Rattle.history.specs.Recover.{oldest}
+use Rattle.layout.specs.Told.{nothing, held}
+use Rattle.commit.specs.Told.{reclaimTold}
+use Rattle.history.specs.Call.{reclaim}
 use Rattle.history.specs.Desk.{Copy}
-use Rattle.history.specs.History.{reclaim, nothing, held}
-use Rattle.history.specs.Calls.{reply, place, free, choice, candidate, clears, reclaims}
-use Rattle.history.proofs.Choice.{First, Best, best}
+use Rattle.history.specs.Due.{smallest, clears, reclaims, dueOf}
+use Rattle.history.specs.History.{History}
+use Rattle.history.specs.Layout.{view}
+use Rattle.history.specs.Ledger.{free, choice, candidate}
+use Rattle.history.proofs.KeptReclaim.{smallest-below, smallest-among}
 use Rattle.claims.proofs.Abstraction.{txn-of, copiesOf, pack, abs}
-use Rattle.claims.proofs.Simulation.{reclaim-said, Sim, Ready}
+use Rattle.claims.proofs.Simulation.{Sim, Ready}
 use Rattle.claims.proofs.Entering.{told as says-only}
-use Rattle.claims.proofs.SimulateChecks.{Checked, Does, past-four, short-fault}
+use Rattle.claims.proofs.SimulateChecks.{Checked, Does, past-four}
 
 -- ---- the slot to clear
 
@@ -83,77 +84,71 @@ free-unused (Published e) q slot cs = refl
 -- ---- the oldest log
 
 -- where some slot is occupied, both find the same number
-same-oldest : (f : ℕ → ℕ) (v : State) → ((p : ℕ) → f p ≡ v .number p) → (k o p : ℕ) → p < k → v .number p ≢ 0 → First k v o
-    → oldestOf f k .persist ≡ v .number o
-same-oldest f v same k o p l n h =
+same-oldest : (f g : ℕ → ℕ) → ((p : ℕ) → f p ≡ g p) → (k p : ℕ) → p < k → g p ≢ 0 → oldestOf f k .persist ≡ smallest g k
+same-oldest f g same k p l n =
     let b = oldest-is f k in
     let some : oldestOf f k .persist ≢ 0 = λ z. n (sym (same p) ∙ b .none z p l) in
     let at = b .some some in
-    let up = h .found .least (oldestOf f k .place) (at .0, λ z. some (sym (at .1) ∙ same _ ∙ z)) in
-    let down = b .least o (h .found .occupied .0) (λ z. h .found .occupied .1 (sym (same o) ∙ z)) in
-    omega (arith, up, down, at .1, same o, same (oldestOf f k .place))
+    let up = smallest-below g k (oldestOf f k .place) (at .0) (λ z. some (sym (at .1) ∙ same _ ∙ z)) .0 in
+    let low = smallest-among g k (smallest-below g k p l n .1) in
+    let down = b .least (low .0) (low .1) (λ z. smallest-below g k p l n .1 (sym (low .2) ∙ sym (same (low .0)) ∙ z)) in
+    omega (arith, up, down, at .1, low .2, same (low .0), same (oldestOf f k .place))
 
 -- ---- the call
 
 -- reclaim past its checks, and where a check refuses
-abbrev reclaim-call : List ℕ → (d : Desk) → ℕ → Checked d
-reclaim-call img d s =
+abbrev reclaim-call : List ℕ → (d : Desk) (f : ℕ → ℕ) → ℕ → ℕ → Checked d f
+reclaim-call img d f len s =
     record {
-      Told = ReclaimReply;
-      said = λ r. reclaim-said (r .answer);
+      call = reclaim len s;
+      Gives = ReclaimReply;
+      tells = λ r. reclaimTold (r .answer);
       left = λ r. r .desk;
-      refusal = reclaimRefused d;
+      refused = reclaimRefused d;
       done = reclaimDone img d s;
       listed = cond (noneLeft img d s) [] (cond (heldB img d s) [] (clearEntries img d s));
       refuses = λ k. refl;
       keeps = λ k. refl;
+      notes = λ k. refl;
     }
 
-module _ (img : List ℕ) (d : Desk) (s : ℕ) where
-  -- the entry of session s, and the image as the abstract call sees it
+module _ (img : List ℕ) (d : Desk) (len s : ℕ) where
+  -- the entry of session s, and the slots' numbers
   abbrev e : Session
   e = sessionAt d s
 
-  abbrev v : State
-  v = view (d .n) img
+  abbrev f : ℕ → ℕ
+  f = view (d .n) img .number
 
   -- the number of the session's slot q, and whether the slot is in question
   abbrev number : ℕ → ℕ
-  number q = v .number (place s q)
+  number q = f (placeOf s q)
 
   abbrev asked : ℕ → Bool
   asked q = not (eqb (number q) 0) && free q (pack e)
 
-  -- the numbers of the image, and of its view
-  number-is : (p : ℕ) → persistAt img (d .n) p ≡ v .number p
+  -- the numbers of the image
+  number-is : (p : ℕ) → persistAt img (d .n) p ≡ f p
   number-is p = rw (add-zero (slotAt (d .n) p)) refl
 
   -- the session's slots
   turns : (q : ℕ) → Turn (asked q) (settledNumber img d s q) (number q)
-  turns q = rw (free-unused (e .phase) q (e .slot) (copiesOf e), number-is (place s q)) (turn (inUse e q) (number q))
+  turns q = rw (free-unused (e .phase) q (e .slot) (copiesOf e), number-is (placeOf s q)) (turn (inUse e q) (number q))
 
-  -- the store chooses the abstract candidate
-  candidate-chosen : Chosen number (chosen img d s) (candidate v s (pack e))
+  -- the store chooses the candidate
+  candidate-chosen : Chosen number (chosen img d s) (candidate f s (pack e))
   candidate-chosen = older-chosen (settledNumber img d s) number (asked 0) (asked 1) (turns 0) (turns 1)
 
   -- by the slot to clear
-  by-slot : s < d .m → (o : Option ℕ) → Chosen number (chosen img d s) o → Does d (reclaim-call img d s) 0 (reclaims (d .n) (d .m) v (abs d) s o)
+  by-slot : s < d .m → (o : Option ℕ) → Chosen number (chosen img d s) o → Does d f (reclaim-call img d f len s) 0 (reclaims (d .n) (d .m) f s o)
   unfolding answered
-  by-slot l none z = rw (eq-eqb (chosen img d s .persist) 0 z) (says-only nothing d)
-  by-slot l (some q) z = by-oldest (oldest v (2 * d .m)) (best v (2 * d .m))
-    where
-      inside : place s q < 2 * d .m
-      inside = omega (arith, z .3)
-
-      -- and the oldest log
-      by-oldest : (o : Option ℕ) → Best v (2 * d .m) o → Does d (reclaim-call img d s) 0 (clears (d .n) v (abs d) (place s q) o)
-      by-oldest none c = absurd (z .2 (c (place s q) inside))
-      by-oldest (some o) c =
-          let left = ne-eqb (number q) 0 (z .2) in
-          let old = same-oldest (persistAt img (d .n)) v number-is (2 * d .m) o (place s q) inside (z .2) c in
-          by-test (ltb (v .number o) (number q))
-          (λ t. rw (z .0, left, old, t) (says-only (held (v .number o)) d))
-          (λ t. rw (z .0, z .1, left, old, t) (record { answers = refl; stored = refl; desk = refl }))
+  by-slot l none z = rw (eq-eqb (chosen img d s .persist) 0 z) (says-only (reclaim len s) f d nothing refl)
+  by-slot l (some q) z =
+      let left = ne-eqb (number q) 0 (z .2) in
+      let old = same-oldest (persistAt img (d .n)) f number-is (2 * d .m) (placeOf s q) (omega (arith, z .3)) (z .2) in
+      by-test (ltb (smallest f (2 * d .m)) (number q))
+      (λ t. rw (z .0, left, old, t) (says-only (reclaim len s) f d (held (smallest f (2 * d .m))) refl))
+      (λ t. rw (z .0, z .1, left, old, t) (record { answers = refl; stored = refl; desk = refl }))
 
 -- no check follows
 first-none : (a : ℕ) → first a 0 ≡ a
@@ -161,18 +156,12 @@ unfolding first
 first-none zero = refl
 first-none (suc a) = refl
 
--- reclaim, past checks 1, 2 and 3
-pub reclaim-sim : (N M : ℕ) (img : List ℕ) (d : Desk) (len s : ℕ) → Ready N M img d → 48 ≤ len
-    → Sim (reclaim-said (reclaimReply img d len s .answer)) (reclaimEntries img d len s) (reclaimReply img d len s .desk) (reply N M img (abs d) (reclaim s))
+pub reclaim-sim : (N M : ℕ) (img : List ℕ) (d : Desk) (k : History) (len s : ℕ) → Ready N M img d
+    → Sim (reclaim len s) (view N img .number) d (reclaimTold (reclaimReply img d len s .answer)) (reclaimEntries img d len s) (reclaimReply img d len s .desk)
+    (dueOf N M (view N img .number) (abs d) k (reclaim len s))
 unfolding reclaimReply reclaimEntries reclaimFault
-reclaim-sim N M img d len s h room =
+reclaim-sim N M img d k len s h =
     rw (← (first-none (imageFault img d (roomFor len) s)))
-    (past-four d (reclaim-call img d s) N M img len s 0 _ h room
+    (past-four d (view N img .number) (reclaim-call img d (view N img .number) len s) N M img len s 0 _ h
     (λ l. rw (← (h .n-same), ← (h .m-same))
-    (by-slot img d s (omega (arith, h .m-same)) (candidate (view (d .n) img) s (pack (sessionAt d s))) (candidate-chosen img d s))))
-
--- reclaim with a trace under 48 words
-pub reclaim-short : (N M : ℕ) (img : List ℕ) (d : Desk) (len s : ℕ) → Ready N M img d → len < 48
-    → (reclaimReply img d len s .answer ≡ Refused 3) × (reclaimEntries img d len s ≡ []) × (reclaimReply img d len s .desk ≡ d)
-unfolding reclaimReply reclaimEntries reclaimFault answered
-reclaim-short N M img d len s h l = let z = short-fault N M img d len s h l in (rw z, rw z, rw z)
+    (by-slot img d len s (omega (arith, h .m-same)) (candidate (view (d .n) img .number) s (pack (sessionAt d s))) (candidate-chosen img d len s))))

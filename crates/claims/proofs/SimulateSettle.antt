@@ -1,4 +1,4 @@
--- Settle on the desk of arrays does what the abstract settle does.
+-- Settle gives what is due.
 use Prim.Native.Nat.{ℕ, zero, suc, _≤_, _<_}
 use mathlib.Core.Path.{_≡_, refl, ap, _∙_}
 use mathlib.Core.Logic.{⊎-elim}
@@ -20,16 +20,18 @@ use Rattle.desk.specs.declared.state.Phase.the-variants.{Idle, Active, Sealed, 
 use Rattle.desk.specs.declared.state.Session.{Session}
 use Rattle.desk.specs.declared.state.Desk.{Desk}
 use Rattle.commit.specs.Settle.{settleFault, settleEntries, endOf, startsBelow, waitsFor, waitsB, goHomeEntries, settleRefused, settleDone, settleReply}
-use Rattle.commit.specs.declared.settling.SettleAnswer.the-variants.{Refused}
 use Rattle.commit.specs.declared.settling.SettleReply.{SettleReply}
+use Rattle.layout.specs.Told.{wait}
+use Rattle.commit.specs.Told.{settleTold}
+use Rattle.history.specs.Call.{settle}
 use Rattle.history.specs.Desk.{Copy, before, firstOf}
-use Rattle.history.specs.History.{settle, wait}
-use Rattle.history.specs.Calls.{reply, settles, waits}
+use Rattle.history.specs.Due.{settles, waits, dueOf}
+use Rattle.history.specs.History.{History}
 use Rattle.history.proofs.Copies.{Lowest, firstOf?}
 use Rattle.claims.proofs.Abstraction.{txn-of, copiesOf, pack, abs, abs-put}
-use Rattle.claims.proofs.Simulation.{settle-said, Sim, Ready}
+use Rattle.claims.proofs.Simulation.{Sim, Ready}
 use Rattle.claims.proofs.Entering.{session-there, told as says-only}
-use Rattle.claims.proofs.SimulateChecks.{Checked, Does, does-refuse, past-four, short-fault, fits}
+use Rattle.claims.proofs.SimulateChecks.{Checked, Does, does-refuse, past-four, fits}
 use Rattle.claims.proofs.CopyEntries.{homes-copies}
 
 -- ---- the session that settle waits for
@@ -86,20 +88,22 @@ idle-starts end (Published e) z = refl
 -- ---- the call
 
 -- settle past its checks, and where a check refuses
-abbrev settle-call : (d : Desk) → ℕ → Checked d
-settle-call d s =
+abbrev settle-call : (d : Desk) (f : ℕ → ℕ) → ℕ → ℕ → Checked d f
+settle-call d f len s =
     record {
-      Told = SettleReply;
-      said = λ r. settle-said (r .answer);
+      call = settle len s;
+      Gives = SettleReply;
+      tells = λ r. settleTold (r .answer);
       left = λ r. r .desk;
-      refusal = settleRefused d;
+      refused = settleRefused d;
       done = settleDone d s;
       listed = cond (waitsB d s) [] (goHomeEntries d s);
       refuses = λ k. refl;
       keeps = λ k. refl;
+      notes = λ k. refl;
     }
 
-module _ (N M : ℕ) (img : List ℕ) (d : Desk) (s : ℕ) (h : Ready N M img d) (l : s < M) where
+module _ (N M : ℕ) (img : List ℕ) (d : Desk) (f : ℕ → ℕ) (len s : ℕ) (h : Ready N M img d) (l : s < M) where
   -- the entry of session s
   abbrev e : Session
   e = sessionAt d s
@@ -113,7 +117,7 @@ module _ (N M : ℕ) (img : List ℕ) (d : Desk) (s : ℕ) (h : Ready N M img d)
       (λ t from to. idle-starts end (sessionAt d t .phase) (⊎-elim (λ x. absurd (omega (arith, x, from, h .m-same))) (λ z. z) (h .coherent .idle t to)))
 
   -- a published session, by the session it waits for
-  settled : (o : Option ℕ) → Agrees 16 (waitsFor d (endOf (e .phase))) o → Does d (settle-call d s) 0 (waits (abs d) s (copiesOf e) o)
+  settled : (o : Option ℕ) → Agrees 16 (waitsFor d (endOf (e .phase))) o → Does d f (settle-call d f len s) 0 (waits (copiesOf e) o)
   unfolding answered
   settled none z =
       rw z
@@ -122,23 +126,18 @@ module _ (N M : ℕ) (img : List ℕ) (d : Desk) (s : ℕ) (h : Ready N M img d)
         stored = ap (λ ws. stores ws ++ (fence ∷ [])) (homes-copies e (fits N M img d s h l));
         desk = abs-put d (d .clock) (d .n) (d .m) s idleSession (unmarked (d .holders) (e .copies) (e .count)) (session-there N M img d h s l);
       })
-  settled (some t) z = rw (z .0, lt-ltb t 16 (z .1)) (says-only (wait t) d)
+  settled (some t) z = rw (z .0, lt-ltb t 16 (z .1)) (says-only (settle len s) f d (wait t) refl)
 
   -- by the session's phase
-  by-phase : (p : Phase) → e .phase ≡ p → Does d (settle-call d s) (unless (isPublished p) 6) (settles M (abs d) s (txn-of p (e .slot) (copiesOf e)))
-  by-phase Idle z = does-refuse d (settle-call d s) 5
-  by-phase (Active b) z = does-refuse d (settle-call d s) 5
-  by-phase (Sealed n) z = does-refuse d (settle-call d s) 5
+  by-phase : (p : Phase) → e .phase ≡ p → Does d f (settle-call d f len s) (unless (isPublished p) 6) (settles M (abs d) (txn-of p (e .slot) (copiesOf e)))
+  by-phase Idle z = does-refuse d f (settle-call d f len s) 5
+  by-phase (Active b) z = does-refuse d f (settle-call d f len s) 5
+  by-phase (Sealed n) z = does-refuse d f (settle-call d f len s) 5
   by-phase (Published end) z = settled (firstOf (λ t. before end (pack (sessionAt d t))) M) (rw z (waits-agree end))
 
--- settle, past checks 1, 2 and 3
-pub settle-sim : (N M : ℕ) (img : List ℕ) (d : Desk) (len s : ℕ) → Ready N M img d → 48 ≤ len
-    → Sim (settle-said (settleReply img d len s .answer)) (settleEntries img d len s) (settleReply img d len s .desk) (reply N M img (abs d) (settle s))
+pub settle-sim : (N M : ℕ) (img : List ℕ) (d : Desk) (f : ℕ → ℕ) (k : History) (len s : ℕ) → Ready N M img d
+    → Sim (settle len s) f d (settleTold (settleReply img d len s .answer)) (settleEntries img d len s) (settleReply img d len s .desk)
+    (dueOf N M f (abs d) k (settle len s))
 unfolding settleReply settleEntries settleFault
-settle-sim N M img d len s h room = past-four d (settle-call d s) N M img len s _ _ h room (λ l. by-phase N M img d s h l (sessionAt d s .phase) refl)
-
--- settle with a trace under 48 words
-pub settle-short : (N M : ℕ) (img : List ℕ) (d : Desk) (len s : ℕ) → Ready N M img d → len < 48
-    → (settleReply img d len s .answer ≡ Refused 3) × (settleEntries img d len s ≡ []) × (settleReply img d len s .desk ≡ d)
-unfolding settleReply settleEntries settleFault first answered
-settle-short N M img d len s h l = let z = short-fault N M img d len s h l in (rw z, rw z, rw z)
+settle-sim N M img d f k len s h =
+    past-four d f (settle-call d f len s) N M img len s _ _ h (λ l. by-phase N M img d f len s h l (sessionAt d s .phase) refl)

@@ -7,7 +7,7 @@ use lib.ListN.{set, replicate, take}
 use Rattle.layout.specs.Crash.{crashed}
 use Rattle.layout.specs.Image.{slotAt}
 use Rattle.layout.specs.Lay.{emptyImage, layAnswer}
-use Rattle.layout.specs.Told.{refusal, result, layTold}
+use Rattle.layout.specs.Told.{refused, refusal, ok, layTold}
 use Rattle.desk.specs.Desk.{zeroCopy, idleSession}
 use Rattle.desk.specs.Coherent.{limit}
 use Rattle.desk.specs.declared.state.Phase.{Phase}
@@ -86,12 +86,12 @@ settled p = withSlot 0 0 5 (withSlot 2 0 p image)
 
 pub record Edges : Type 0 where
   -- A: N 256, M 16: 1,732 words pass, 1,731 give 1
-  pub a-lay : layTold (layAnswer 256 16 (replicate 1732 9)) ≡ result 0
+  pub a-lay : layTold (layAnswer 256 16 (replicate 1732 9)) ≡ ok
   pub a-lay-short : layTold (layAnswer 256 16 (replicate 1731 9)) ≡ refusal 1
-  pub a-open : openTold (openReply (emptyImage 256 16) .answer) ≡ result 0
+  pub a-open : openTold (openReply (emptyImage 256 16) .answer) ≡ ok
   pub a-open-short : openTold (openReply (take 1731 (emptyImage 256 16)) .answer) ≡ refusal 1
-  -- B: N 257 gives 14
-  pub b : layTold (layAnswer 257 16 (replicate 1736 9)) ≡ refusal 14
+  -- B: N 257 gives 14, though the length is wrong too
+  pub b : layTold (layAnswer 257 16 (replicate 1732 9)) ≡ refusal 14
   -- C: start 6, holder's end 6: copy; D: start 5, end 6: home
   pub c-answer : readAt 6 6 .answer ≡ Copy
   pub c-words : readAt 6 6 .words ≡ 5 ∷ 6 ∷ 7 ∷ 8 ∷ []
@@ -111,4 +111,4 @@ pub record Edges : Type 0 where
   pub k : reclaimReply (settled 5) (freshDesk 5 8 2) 48 0 .answer ≡ Cleared 5
   -- M: count 5 with persist number 0 is ignored; N: with persist number 3 it gives 12
   pub m : recoverReply (withSlot 1 1 5 image) 48 .answer ≡ Clean
-  pub n : recoverTold (recoverReply (withSlot 1 0 3 (withSlot 1 1 5 image)) 48 .answer) ≡ record { number = 12; value = 1 }
+  pub n : recoverTold (recoverReply (withSlot 1 0 3 (withSlot 1 1 5 image)) 48 .answer) ≡ refused 12 1

@@ -1,11 +1,9 @@
 pub mod Edges
-pub mod Call
-pub mod History
-pub mod Ledger
 pub mod Rules
 pub mod Run
 pub mod Recovery
 pub mod Demands
+pub mod Lives
 pub mod Refusals
-pub mod Impostors
 pub mod Lists
+pub mod Impostors

@@ -1,83 +1,209 @@
--- Document 01, "What is turned away": for every call and every input the number told is the one that the call's checks give, 0 where none
--- refuses, and a refusal changes nothing but what the table lists.
-use Prim.Native.Nat.{ℕ, _-_}
-use mathlib.Core.Bool.{cond}
+-- Document 01, "What is turned away", as one table: the causes with their numbers, and for each call the row of causes that it asks, in
+-- order. The number told is that of the first cause in the row that holds, 0 where none does; with it go the values that the table lists,
+-- and a refusal leaves as it was what the table says.
+use Prim.Native.Nat.{ℕ, _+_, _-_, _*_}
+use mathlib.Core.Bool.{Bool, true, false, _&&_, not, cond}
 use mathlib.Core.Path.{_≡_}
-use mathlib.Core.List.{List, []}
+use mathlib.Core.List.{List, [], _∷_}
 use lib.ListN.{length}
-use lib.Dec.{eqb}
+use lib.Dec.{leb, ltb, eqb}
+use Rattle.layout.specs.Below.{anyBelow, lowest}
 use Rattle.layout.specs.Entries.{Entry, made, listed}
-use Rattle.layout.specs.Lay.{layFault, layAnswer, laidImage}
-use Rattle.layout.specs.Told.{Told, layTold}
-use Rattle.desk.specs.Desk.{markAt, dropped}
-use Rattle.desk.specs.Begin.{beginFault, beginReply}
-use Rattle.desk.specs.Abandon.{abandonFault, abandonReply}
-use Rattle.desk.specs.Publish.{publishFault, publishReply}
-use Rattle.desk.specs.Told.{beginTold, abandonTold, publishTold}
+use Rattle.layout.specs.Image.{recordsOf, sessionsOf, inRange, sizeOf, shapedB, placeOf, slotWord, occupiedAt, occupiedB}
+use Rattle.layout.specs.Lay.{layAnswer, laidImage}
+use Rattle.layout.specs.Told.{Told, numberOf, valueOf, layTold}
+use Rattle.journal.specs.Log.{unsoundB, tiedB}
+use Rattle.desk.specs.Coherent.{limit, coherentB}
+use Rattle.desk.specs.Desk.{sessionAt, markAt, isIdle, isActive, isSealed, isPublished, dropped}
+use Rattle.desk.specs.declared.state.Phase.{Phase}
 use Rattle.desk.specs.declared.state.Desk.{Desk}
 use Rattle.snapshot.specs.Own.{zeroWords}
-use Rattle.recovery.specs.Open.{openFault, openReply, freshDesk}
-use Rattle.snapshot.specs.Read.{readFault, readReply}
-use Rattle.snapshot.specs.Write.{writeFault, writeReply}
-use Rattle.commit.specs.Finish.{finishFault, finishReply, finishEntries}
-use Rattle.commit.specs.Settle.{settleFault, settleReply, settleEntries}
-use Rattle.commit.specs.Reclaim.{reclaimFault, reclaimReply, reclaimEntries}
-use Rattle.recovery.specs.Recover.{unsoundPlace, recoverFault, recoverReply, recoverEntries}
-use Rattle.recovery.specs.Told.{openTold, recoverTold}
-use Rattle.snapshot.specs.Told.{readTold, writeTold}
-use Rattle.commit.specs.Told.{finishTold, settleTold, reclaimTold}
+use Rattle.snapshot.specs.Read.{readReply}
+use Rattle.recovery.specs.Open.{freshDesk}
+use Rattle.history.specs.Call.{Call, begin, read, write, abandon, finish, publish, settle, reclaim}
+use Rattle.claims.specs.Rules.{storeRules}
 
--- of a call with this fault, by what it tells and what it leaves: the number told is the fault; refused, it tells this value and leaves
--- what was to be kept
-pub record TurnedAway {A : Type 0} (fault value : ℕ) (told : Told) (left kept : A) : Type 0 where
-  pub number : told .number ≡ fault
-  pub tells : (fault ≡ 0 → ⊥) → told .value ≡ value
-  pub leaves : (fault ≡ 0 → ⊥) → left ≡ kept
+-- ---- the table's first two columns
 
--- of a call's count of entries and its list: it stores and lists nothing, so that image and trace are as they were
+pub data Cause : Type 0 where
+  -- image length or header wrong; of lay the length alone
+  wrongImage : Cause
+  wrongLength : Cause
+  -- desk not coherent; where the call takes an image, N and M are to equal its header
+  incoherent : Cause
+  otherSize : Cause
+  shortTrace : Cause
+  noSession : Cause
+  noRecord : Cause
+  wrongPhase : Cause
+  otherHolds : Cause
+  fifthRecord : Cause
+  slotsFull : Cause
+  clockAtLimit : Cause
+  slotOccupied : Cause
+  logUnsound : Cause
+  logsTied : Cause
+  outOfRange : Cause
+
+abbrev pub number : Cause → ℕ
+number wrongImage = 1
+number wrongLength = 1
+number incoherent = 2
+number otherSize = 2
+number shortTrace = 3
+number noSession = 4
+number noRecord = 5
+number wrongPhase = 6
+number otherHolds = 7
+number fifthRecord = 8
+number slotsFull = 9
+number clockAtLimit = 10
+number slotOccupied = 11
+number logUnsound = 12
+number logsTied = 13
+number outOfRange = 14
+
+-- what a call is given; a field that it does not take is in no cause of its row
+pub record Given : Type 0 where
+  pub image : List ℕ
+  pub desk : Desk
+  pub trace : ℕ
+  pub session : ℕ
+  pub rec : ℕ
+  pub allows : Phase → Bool
+  pub n : ℕ
+  pub m : ℕ
+
+-- the mark of the record names a session, and another one
+abbrev pub markedOther : ℕ → ℕ → Bool
+markedOther mark s = not (eqb mark 0) && not (eqb mark (s + 1))
+
+-- the mark of the record names this session
+abbrev pub markedOwn : ℕ → ℕ → Bool
+markedOwn mark s = eqb mark (s + 1)
+
+abbrev pub countOf : Given → ℕ
+countOf g = sessionAt (g .desk) (g .session) .count
+
+-- slot q of the session is occupied
+abbrev pub slotTaken : Given → ℕ → Bool
+slotTaken g q = occupiedAt (g .image) (g .desk .n) (placeOf (g .session) q)
+
+-- the occupied slot at place p has count 0 or above 4, a record at or above N, or a record twice
+abbrev pub unsoundAt : List ℕ → ℕ → Bool
+unsoundAt img p = unsoundB (recordsOf img) (slotWord img (recordsOf img) p)
+
+-- two occupied slots, equal persist numbers, a record in common
+abbrev pub tiedAt : List ℕ → ℕ → ℕ → Bool
+tiedAt img p q = tiedB (slotWord img (recordsOf img) p) (slotWord img (recordsOf img) q)
+
+unfoldable pub holds : Cause → Given → Bool
+holds wrongImage g = not (shapedB (g .image))
+holds wrongLength g = not (eqb (length (g .image)) (sizeOf (g .n) (g .m)))
+holds incoherent g = not (coherentB (g .desk))
+holds otherSize g = not (eqb (g .desk .n) (recordsOf (g .image)) && eqb (g .desk .m) (sessionsOf (g .image)))
+holds shortTrace g = ltb (g .trace) 48
+holds noSession g = leb (g .desk .m) (g .session)
+holds noRecord g = leb (g .desk .n) (g .rec)
+holds wrongPhase g = not (g .allows (sessionAt (g .desk) (g .session) .phase))
+holds otherHolds g = markedOther (markAt (g .desk) (g .rec)) (g .session)
+holds fifthRecord g = not (markedOwn (markAt (g .desk) (g .rec)) (g .session)) && leb 4 (countOf g)
+holds slotsFull g = eqb (countOf g) 0 && slotTaken g 0 && slotTaken g 1
+holds clockAtLimit g = not (eqb (countOf g) 0) && leb limit (g .desk .clock)
+holds slotOccupied g = occupiedB (g .image) (recordsOf (g .image)) (2 * sessionsOf (g .image))
+holds logUnsound g = anyBelow (2 * sessionsOf (g .image)) (unsoundAt (g .image))
+holds logsTied g = anyBelow (2 * sessionsOf (g .image)) (λ p. anyBelow p (tiedAt (g .image) p))
+holds outOfRange g = not (inRange (g .n) (g .m))
+
+-- the number of the first cause that holds, 0 where none does
+unfoldable pub firstOf : List Cause → Given → ℕ
+firstOf [] g = 0
+firstOf (c ∷ row) g = cond (holds c g) (number c) (firstOf row g)
+
+-- ---- the rows
+
+abbrev pub layRow : List Cause
+layRow = outOfRange ∷ wrongLength ∷ []
+
+abbrev pub openRow : List Cause
+openRow = wrongImage ∷ slotOccupied ∷ []
+
+abbrev pub recoverRow : List Cause
+recoverRow = wrongImage ∷ shortTrace ∷ logUnsound ∷ logsTied ∷ []
+
+abbrev pub row : Call → List Cause
+row (begin s) = incoherent ∷ noSession ∷ wrongPhase ∷ []
+row (read s r) = wrongImage ∷ incoherent ∷ otherSize ∷ noSession ∷ noRecord ∷ wrongPhase ∷ []
+row (write s r ws) =
+    wrongImage ∷ incoherent ∷ otherSize ∷ noSession ∷ noRecord ∷ wrongPhase ∷ otherHolds ∷ fifthRecord ∷ slotsFull ∷ []
+row (abandon s) = incoherent ∷ noSession ∷ wrongPhase ∷ []
+row (finish len s) = wrongImage ∷ incoherent ∷ otherSize ∷ shortTrace ∷ noSession ∷ wrongPhase ∷ clockAtLimit ∷ []
+row (publish s) = incoherent ∷ noSession ∷ wrongPhase ∷ []
+row (settle len s) = wrongImage ∷ incoherent ∷ otherSize ∷ shortTrace ∷ noSession ∷ wrongPhase ∷ []
+row (reclaim len s) = wrongImage ∷ incoherent ∷ otherSize ∷ shortTrace ∷ noSession ∷ []
+
+-- ---- what the calls are given
+
+-- lay, open and recover take no desk, session or record
+abbrev pub ofImage : List ℕ → ℕ → ℕ → ℕ → Given
+ofImage img len n m =
+    record { image = img; desk = freshDesk 0 0 0; trace = len; session = 0; rec = 0; allows = λ p. true; n = n; m = m }
+
+abbrev pub ofCall : List ℕ → Desk → ℕ → ℕ → ℕ → (Phase → Bool) → Given
+ofCall img d len s r allows = record { image = img; desk = d; trace = len; session = s; rec = r; allows = allows; n = 0; m = 0 }
+
+-- a session call, with the phases that allow it
+abbrev pub given : List ℕ → Desk → Call → Given
+given img d (begin s) = ofCall img d 0 s 0 isIdle
+given img d (read s r) = ofCall img d 0 s r isActive
+given img d (write s r ws) = ofCall img d 0 s r isActive
+given img d (abandon s) = ofCall img d 0 s 0 isActive
+given img d (finish len s) = ofCall img d len s 0 isActive
+given img d (publish s) = ofCall img d 0 s 0 isSealed
+given img d (settle len s) = ofCall img d len s 0 isPublished
+given img d (reclaim len s) = ofCall img d len s 0 (λ p. true)
+
+-- ---- the table's last two columns
+
+-- one thing at this number, and another at all others
+abbrev pub only : {A : Type 0} → ℕ → A → A → ℕ → A
+only number this other k = cond (eqb k number) this other
+
+-- what is told has this number; where it is one of a refusal, with this value, and this is left as is to be
+pub record TurnedAway {A : Type 0} (told : Told) (refusal value : ℕ) (left kept : A) : Type 0 where
+  pub number-is : numberOf told ≡ refusal
+  pub tells : (refusal ≡ 0 → ⊥) → valueOf told ≡ value
+  pub leaves : (refusal ≡ 0 → ⊥) → left ≡ kept
+
+-- of a count of entries and a list: nothing is stored or listed, so that image and trace are as they were
 pub record StoresNothing (count : ℕ) (es : List Entry) : Type 0 where
   pub none : count ≡ 0
   pub entries : es ≡ []
   pub image : (img : List ℕ) → made es img ≡ img
   pub trace : (t : List ℕ) → listed es t ≡ t
 
--- one thing at this number, and another at all others
-abbrev pub only : {A : Type 0} → ℕ → A → A → ℕ → A
-only number this other k = cond (eqb k number) this other
-
 pub record Refusals : Type 0 where
   -- the image stays
-  pub lay : (n m : ℕ) (img : List ℕ) → TurnedAway (layFault n m (length img)) 0 (layTold (layAnswer n m img)) (laidImage n m img) img
+  pub lay : (n m : ℕ) (img : List ℕ)
+      → TurnedAway (layTold (layAnswer n m img)) (firstOf layRow (ofImage img 0 n m)) 0 (laidImage n m img) img
   -- refused, it gives a desk with clock, N and M 0, all idle, unmarked
-  pub opens : (img : List ℕ) → TurnedAway (openFault img) 0 (openTold (openReply img .answer)) (openReply img .desk) (freshDesk 0 0 0)
-  -- the desk stays
-  pub begin : (d : Desk) (s : ℕ) → TurnedAway (beginFault d s) 0 (beginTold (beginReply d s .answer)) (beginReply d s .desk) d
-  pub abandon : (d : Desk) (s : ℕ) → TurnedAway (abandonFault d s) 0 (abandonTold (abandonReply d s .answer)) (abandonReply d s .desk) d
-  pub publish : (d : Desk) (s : ℕ) → TurnedAway (publishFault d s) 0 (publishTold (publishReply d s .answer)) (publishReply d s .desk) d
-  pub read : (img : List ℕ) (d : Desk) (s r : ℕ)
-      → TurnedAway (readFault img d s r) 0 (readTold (readReply img d s r .answer)) (readReply img d s r .desk) d
-  pub finish : (img : List ℕ) (d : Desk) (len s : ℕ)
-      → TurnedAway (finishFault img d len s) 0 (finishTold (finishReply img d len s .answer)) (finishReply img d len s .desk) d
-  pub settle : (img : List ℕ) (d : Desk) (len s : ℕ)
-      → TurnedAway (settleFault img d len s) 0 (settleTold (settleReply img d len s .answer)) (settleReply img d len s .desk) d
-  pub reclaim : (img : List ℕ) (d : Desk) (len s : ℕ)
-      → TurnedAway (reclaimFault img d len s) 0 (reclaimTold (reclaimReply img d len s .answer)) (reclaimReply img d len s .desk) d
-  -- 7 names the holder, and leaves the caller idle with its marks and copies dropped
-  pub write : (img : List ℕ) (d : Desk) (s r : ℕ) (ws : List ℕ)
-      → TurnedAway (writeFault img d s r) (only 7 (markAt d r - 1) 0 (writeFault img d s r)) (writeTold (writeReply img d s r ws .answer))
-      (writeReply img d s r ws .desk) (only 7 (dropped d s) d (writeFault img d s r))
+  pub opens : (img : List ℕ)
+      → TurnedAway (storeRules .opens img .told) (firstOf openRow (ofImage img 0 0 0)) 0 (storeRules .opens img .desk) (freshDesk 0 0 0)
+  -- 7 names the holder, and leaves the caller idle with its marks and copies dropped; any other refusal leaves the desk
+  pub calls : (img : List ℕ) (d : Desk) (c : Call)
+      → TurnedAway (storeRules .call img d c .told) (firstOf (row c) (given img d c))
+      (only 7 (markAt d (given img d c .rec) - 1) 0 (firstOf (row c) (given img d c)))
+      (storeRules .call img d c .desk) (only 7 (dropped d (given img d c .session)) d (firstOf (row c) (given img d c)))
   -- 12 names the lowest place that is not sound; the image stays
   pub recover : (img : List ℕ) (len : ℕ)
-      → TurnedAway (recoverFault img len) (only 12 (unsoundPlace img) 0 (recoverFault img len)) (recoverTold (recoverReply img len .answer))
-      (made (recoverEntries img len) img) img
+      → TurnedAway (storeRules .recover img len .told) (firstOf recoverRow (ofImage img len 0 0))
+      (only 12 (lowest (2 * sessionsOf img) (unsoundAt img)) 0 (firstOf recoverRow (ofImage img len 0 0)))
+      (made (storeRules .recover img len .entries) img) img
   -- a refused read gives four zeros
-  pub read-words : (img : List ℕ) (d : Desk) (s r : ℕ) → (readFault img d s r ≡ 0 → ⊥) → readReply img d s r .words ≡ zeroWords
-  -- the four calls that store
-  pub finish-stores : (img : List ℕ) (d : Desk) (len s : ℕ) → (finishFault img d len s ≡ 0 → ⊥)
-      → StoresNothing (finishReply img d len s .entries) (finishEntries img d len s)
-  pub settle-stores : (img : List ℕ) (d : Desk) (len s : ℕ) → (settleFault img d len s ≡ 0 → ⊥)
-      → StoresNothing (settleReply img d len s .entries) (settleEntries img d len s)
-  pub reclaim-stores : (img : List ℕ) (d : Desk) (len s : ℕ) → (reclaimFault img d len s ≡ 0 → ⊥)
-      → StoresNothing (reclaimReply img d len s .entries) (reclaimEntries img d len s)
-  pub recover-stores : (img : List ℕ) (len : ℕ) → (recoverFault img len ≡ 0 → ⊥)
-      → StoresNothing (recoverReply img len .entries) (recoverEntries img len)
+  pub read-words : (img : List ℕ) (d : Desk) (s r : ℕ) → (firstOf (row (read s r)) (given img d (read s r)) ≡ 0 → ⊥)
+      → readReply img d s r .words ≡ zeroWords
+  -- a refusal stores nothing
+  pub calls-store : (img : List ℕ) (d : Desk) (c : Call) → (firstOf (row c) (given img d c) ≡ 0 → ⊥)
+      → StoresNothing (storeRules .call img d c .count) (storeRules .call img d c .entries)
+  pub recover-stores : (img : List ℕ) (len : ℕ) → (firstOf recoverRow (ofImage img len 0 0) ≡ 0 → ⊥)
+      → StoresNothing (storeRules .recover img len .count) (storeRules .recover img len .entries)

@@ -20,7 +20,9 @@ use Rattle.desk.specs.declared.state.Desk.{Desk}
 use Rattle.desk.proofs.Copied.{copies-four}
 use Rattle.desk.specs.Entering.{imageFault}
 use Rattle.layout.specs.Checks.{roomFor}
-use Rattle.commit.specs.Finish.{finishFault, sealEntries, finishEntries, finishRefused, finishReply}
+use Rattle.commit.specs.Finish.{finishFault, sealEntries, finishEntries, finishRefused, finishReply, finishSaid}
+use Rattle.commit.specs.Told.{finishTold}
+use Rattle.commit.proofs.ToldLaws.{finish-tells}
 use Rattle.commit.specs.declared.finishing.FinishAnswer.the-variants.{Empty, Sealed as SealedAt}
 use Rattle.commit.specs.declared.finishing.FinishReply.{FinishReply}
 use Rattle.desk.proofs.Entered.{entered}
@@ -56,8 +58,9 @@ pub record Finishes (img : List ℕ) (d : Desk) (len s : ℕ) (r : FinishReply) 
 -- the reply r, and image and trace with es made and listed, are what finish gives
 pub finished : {img : List ℕ} {d : Desk} {len s : ℕ} {r : FinishReply} {es : List Entry} → Finishes img d len s r es
     → {x : FinishReply} {img′ t′ : List ℕ} (t : List ℕ) → x ≡ r → img′ ≡ made es img → t′ ≡ listed es t
-    → (x ≡ finishReply img d len s) × ((img′ ≡ made (finishEntries img d len s) img) × (t′ ≡ listed (finishEntries img d len s) t))
-finished h t a b c = (a ∙ sym (h .reply), (rw (h .lists) b, rw (h .lists) c))
+    → (x ≡ finishReply img d len s)
+    × ((img′ ≡ made (finishEntries img d len s) img) × ((t′ ≡ listed (finishEntries img d len s) t) × (finishTold (x .answer) ≡ finishSaid img d len s)))
+finished h t a b c = finish-tells _ _ _ _ (a ∙ sym (h .reply), (rw (h .lists) b, rw (h .lists) c))
 
 -- checks 6 and 10
 abbrev pub sealFault : Desk → ℕ → ℕ

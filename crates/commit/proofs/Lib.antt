@@ -1,4 +1,5 @@
 pub mod Lists
+pub mod ToldLaws
 pub mod FinishLaws
 pub mod SettleLaws
 pub mod ReclaimLaws

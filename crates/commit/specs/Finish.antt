@@ -18,6 +18,7 @@ use Rattle.desk.specs.Entering.{imageFault}
 use Rattle.layout.specs.Checks.{roomFor}
 use Rattle.commit.specs.declared.finishing.FinishAnswer.the-variants.{Refused, Empty, Sealed as SealedAt}
 use Rattle.commit.specs.declared.finishing.FinishReply.{FinishReply}
+use Rattle.layout.specs.Told.{Told, refusal, empty, sealedAt}
 
 -- `len` is the length of the trace; 10 is asked with copies only
 unfoldable pub finishFault : List ℕ → Desk → ℕ → ℕ → ℕ
@@ -50,3 +51,7 @@ finishDone d s =
 
 unfoldable pub finishReply : List ℕ → Desk → ℕ → ℕ → FinishReply
 finishReply img d len s = answered (finishFault img d len s) (finishRefused d) (finishDone d s)
+
+-- what it tells: empty, or the persist number
+unfoldable pub finishSaid : List ℕ → Desk → ℕ → ℕ → Told
+finishSaid img d len s = answered (finishFault img d len s) refusal (cond (eqb (sessionAt d s .count) 0) empty (sealedAt (d .clock)))

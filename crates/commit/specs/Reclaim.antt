@@ -19,6 +19,7 @@ use Rattle.desk.specs.Entering.{imageFault}
 use Rattle.layout.specs.Checks.{roomFor}
 use Rattle.commit.specs.declared.reclaiming.ReclaimAnswer.the-variants.{Refused, None, Held, Cleared}
 use Rattle.commit.specs.declared.reclaiming.ReclaimReply.{ReclaimReply}
+use Rattle.layout.specs.Told.{Told, refusal, nothing, held, cleared}
 
 unfoldable pub reclaimFault : List ℕ → Desk → ℕ → ℕ → ℕ
 reclaimFault img d len s = imageFault img d (roomFor len) s
@@ -67,3 +68,10 @@ reclaimDone img d s =
 
 unfoldable pub reclaimReply : List ℕ → Desk → ℕ → ℕ → ReclaimReply
 reclaimReply img d len s = answered (reclaimFault img d len s) (reclaimRefused d) (reclaimDone img d s)
+
+-- what it tells: none, held with the smallest number, or cleared with the number that the slot had
+unfoldable pub reclaimSaid : List ℕ → Desk → ℕ → ℕ → Told
+reclaimSaid img d len s =
+    answered (reclaimFault img d len s) refusal
+    (cond (noneLeft img d s) nothing
+    (cond (heldB img d s) (held (oldestLog img d .persist)) (cleared (chosen img d s .persist))))

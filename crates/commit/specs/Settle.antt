@@ -18,6 +18,7 @@ use Rattle.desk.specs.Entering.{imageFault}
 use Rattle.layout.specs.Checks.{roomFor}
 use Rattle.commit.specs.declared.settling.SettleAnswer.the-variants.{Refused, Wait, Ok}
 use Rattle.commit.specs.declared.settling.SettleReply.{SettleReply}
+use Rattle.layout.specs.Told.{Told, refusal, ok, wait}
 
 unfoldable pub settleFault : List ℕ → Desk → ℕ → ℕ → ℕ
 settleFault img d len s = first (imageFault img d (roomFor len) s) (unless (isPublished (sessionAt d s .phase)) 6)
@@ -62,3 +63,8 @@ settleDone d s =
 
 unfoldable pub settleReply : List ℕ → Desk → ℕ → ℕ → SettleReply
 settleReply img d len s = answered (settleFault img d len s) (settleRefused d) (settleDone d s)
+
+-- what it tells: the session that it waits for, or ok
+unfoldable pub settleSaid : List ℕ → Desk → ℕ → ℕ → Told
+settleSaid img d len s =
+    answered (settleFault img d len s) refusal (cond (waitsB d s) (wait (waitsFor d (endOf (sessionAt d s .phase)))) ok)

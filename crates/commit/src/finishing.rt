@@ -6,7 +6,8 @@ ghost use lib.ListN.{length};
 ghost use Rattle.layout.specs.Checks.{unless, first};
 ghost use Rattle.layout.specs.Entries.{made, listed};
 ghost use Rattle.desk.specs.Coherent.{limit};
-ghost use Rattle.commit.specs.Finish.{finishEntries, finishReply};
+ghost use Rattle.commit.specs.Finish.{finishEntries, finishReply, finishSaid};
+ghost use Rattle.commit.specs.Told.{finishTold};
 use desk::Desk;
 use desk::Phase;
 use desk::coherent;
@@ -61,6 +62,7 @@ pub fn finish(image: &mut [u64], mut desk: Desk, trace: &mut [u64], session: u64
         ≡ made (finishEntries (now (image .entry)) desk (length (now (trace .entry))) session) (now (image .entry)) ⌝ }
     ensures trace { λ r. ⌜ now (trace .exit)
         ≡ listed (finishEntries (now (image .entry)) desk (length (now (trace .entry))) session) (now (trace .entry)) ⌝ }
+    ensures told { λ r. ⌜ finishTold (r .answer) ≡ finishSaid (now (image .entry)) desk (length (now (trace .entry))) session ⌝ }
 {
     let sound = coherent(desk);
     let n = desk.n;

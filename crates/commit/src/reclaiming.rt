@@ -6,7 +6,8 @@ ghost use lib.ListN.{length};
 ghost use Rattle.layout.specs.Entries.{made, listed};
 ghost use Rattle.layout.specs.Image.{placeOf, persistAt};
 ghost use Rattle.journal.specs.Oldest.{oldestOf};
-ghost use Rattle.commit.specs.Reclaim.{inUse, reclaimEntries, reclaimReply};
+ghost use Rattle.commit.specs.Reclaim.{inUse, reclaimEntries, reclaimReply, reclaimSaid};
+ghost use Rattle.commit.specs.Told.{reclaimTold};
 use desk::Desk;
 use desk::Session;
 use desk::coherent;
@@ -70,6 +71,7 @@ pub fn reclaim(image: &mut [u64], desk: Desk, trace: &mut [u64], session: u64) -
         ≡ made (reclaimEntries (now (image .entry)) desk (length (now (trace .entry))) session) (now (image .entry)) ⌝ }
     ensures trace { λ r. ⌜ now (trace .exit)
         ≡ listed (reclaimEntries (now (image .entry)) desk (length (now (trace .entry))) session) (now (trace .entry)) ⌝ }
+    ensures told { λ r. ⌜ reclaimTold (r .answer) ≡ reclaimSaid (now (image .entry)) desk (length (now (trace .entry))) session ⌝ }
 {
     let sound = coherent(desk);
     let n = desk.n;

@@ -2,7 +2,8 @@
 ghost use mathlib.Core.Path.{_≡_};
 ghost use lib.ListN.{length};
 ghost use Rattle.layout.specs.Entries.{made, listed};
-ghost use Rattle.commit.specs.Settle.{endOf, startsBelow, settleEntries, settleReply};
+ghost use Rattle.commit.specs.Settle.{endOf, startsBelow, settleEntries, settleReply, settleSaid};
+ghost use Rattle.commit.specs.Told.{settleTold};
 use desk::Desk;
 use desk::Phase;
 use desk::coherent;
@@ -64,6 +65,7 @@ pub fn settle(image: &mut [u64], mut desk: Desk, trace: &mut [u64], session: u64
         ≡ made (settleEntries (now (image .entry)) desk (length (now (trace .entry))) session) (now (image .entry)) ⌝ }
     ensures trace { λ r. ⌜ now (trace .exit)
         ≡ listed (settleEntries (now (image .entry)) desk (length (now (trace .entry))) session) (now (trace .entry)) ⌝ }
+    ensures told { λ r. ⌜ settleTold (r .answer) ≡ settleSaid (now (image .entry)) desk (length (now (trace .entry))) session ⌝ }
 {
     let sound = coherent(desk);
     let n = desk.n;

@@ -6,3 +6,4 @@ pub mod Facts
 pub mod Sizes
 pub mod Struck
 pub mod Walk
+pub mod ToldLaws

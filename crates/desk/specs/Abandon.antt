@@ -6,6 +6,7 @@ use Rattle.desk.specs.Entering.{deskFault}
 use Rattle.desk.specs.declared.state.Desk.{Desk}
 use Rattle.desk.specs.declared.abandon.AbandonAnswer.the-variants.{Refused, Ok}
 use Rattle.desk.specs.declared.abandon.AbandonReply.{AbandonReply}
+use Rattle.layout.specs.Told.{Told, refusal, ok}
 
 unfoldable pub abandonFault : Desk → ℕ → ℕ
 abandonFault d s = first (deskFault d s) (unless (isActive (sessionAt d s .phase)) 6)
@@ -18,3 +19,7 @@ abandoned d s = record { answer = Ok; desk = dropped d s }
 
 unfoldable pub abandonReply : Desk → ℕ → AbandonReply
 abandonReply d s = answered (abandonFault d s) (abandonRefused d) (abandoned d s)
+
+-- what it tells
+unfoldable pub abandonSaid : Desk → ℕ → Told
+abandonSaid d s = answered (abandonFault d s) refusal ok

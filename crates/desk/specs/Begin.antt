@@ -7,6 +7,7 @@ use Rattle.desk.specs.declared.state.Phase.the-variants.{Active}
 use Rattle.desk.specs.declared.state.Desk.{Desk}
 use Rattle.desk.specs.declared.begin.BeginAnswer.the-variants.{Refused, Start}
 use Rattle.desk.specs.declared.begin.BeginReply.{BeginReply}
+use Rattle.layout.specs.Told.{Told, refusal, start}
 
 unfoldable pub beginFault : Desk → ℕ → ℕ
 beginFault d s = first (deskFault d s) (unless (isIdle (sessionAt d s .phase)) 6)
@@ -19,3 +20,7 @@ begun d s = record { answer = Start (d .clock); desk = putSession d s (withPhase
 
 unfoldable pub beginReply : Desk → ℕ → BeginReply
 beginReply d s = answered (beginFault d s) (beginRefused d) (begun d s)
+
+-- what it tells: the start
+unfoldable pub beginSaid : Desk → ℕ → Told
+beginSaid d s = answered (beginFault d s) refusal (start (d .clock))

@@ -8,6 +8,7 @@ use Rattle.desk.specs.declared.state.Phase.the-variants.{Published}
 use Rattle.desk.specs.declared.state.Desk.{Desk}
 use Rattle.desk.specs.declared.publish.PublishAnswer.the-variants.{Refused, End}
 use Rattle.desk.specs.declared.publish.PublishReply.{PublishReply}
+use Rattle.layout.specs.Told.{Told, refusal, endedAt}
 
 unfoldable pub publishFault : Desk → ℕ → ℕ
 publishFault d s = first (deskFault d s) (unless (isSealed (sessionAt d s .phase)) 6)
@@ -31,3 +32,7 @@ published d s =
 
 unfoldable pub publishReply : Desk → ℕ → PublishReply
 publishReply d s = answered (publishFault d s) (publishRefused d) (published d s)
+
+-- what it tells: the end
+unfoldable pub publishSaid : Desk → ℕ → Told
+publishSaid d s = answered (publishFault d s) refusal (endedAt (d .clock + 1))

@@ -1,5 +1,5 @@
--- Document 01's number and value for each answer of begin, abandon and publish.
-use Rattle.layout.specs.Told.{Told, refusal, result}
+-- What each answer of begin, abandon and publish tells.
+use Rattle.layout.specs.Told.{Told, refusal, ok, start, endedAt}
 use Rattle.desk.specs.declared.begin.BeginAnswer.{BeginAnswer}
 use Rattle.desk.specs.declared.begin.BeginAnswer.the-variants.{Refused as BeginRefused, Start}
 use Rattle.desk.specs.declared.abandon.AbandonAnswer.{AbandonAnswer}
@@ -7,16 +7,14 @@ use Rattle.desk.specs.declared.abandon.AbandonAnswer.the-variants.{Refus
 use Rattle.desk.specs.declared.publish.PublishAnswer.{PublishAnswer}
 use Rattle.desk.specs.declared.publish.PublishAnswer.the-variants.{Refused as PublishRefused, End}
 
--- start with its number
 abbrev pub beginTold : BeginAnswer → Told
 beginTold (BeginRefused k) = refusal k
-beginTold (Start b) = result b
+beginTold (Start b) = start b
 
 abbrev pub abandonTold : AbandonAnswer → Told
 abandonTold (AbandonRefused k) = refusal k
-abandonTold Ok = result 0
+abandonTold Ok = ok
 
--- end with its number
 abbrev pub publishTold : PublishAnswer → Told
 publishTold (PublishRefused k) = refusal k
-publishTold (End e) = result e
+publishTold (End e) = endedAt e

@@ -1,6 +1,7 @@
 // Abandon: an active session drops its marks and copies and becomes idle.
 ghost use mathlib.Core.Path.{_≡_};
-ghost use Rattle.desk.specs.Abandon.{abandonReply};
+ghost use Rattle.desk.specs.Abandon.{abandonReply, abandonSaid};
+ghost use Rattle.desk.specs.Told.{abandonTold};
 use crate::coherence::coherent;
 use crate::entering::session_fault;
 use crate::session::idle_session;
@@ -20,7 +21,8 @@ pub struct AbandonReply {
 
 impl Desk {
     pub fn abandon(mut self, session: u64) -> AbandonReply
-        ensures { λ r. ⌜ r ≡ abandonReply self session ⌝ }
+        ensures reply { λ r. ⌜ r ≡ abandonReply self session ⌝ }
+        ensures told { λ r. ⌜ abandonTold (r .answer) ≡ abandonSaid self session ⌝ }
     {
         let sound = coherent(self);
         let m = self.m;

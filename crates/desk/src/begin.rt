@@ -1,6 +1,7 @@
 // Begin: an idle session becomes active, and its start is the clock.
 ghost use mathlib.Core.Path.{_≡_};
-ghost use Rattle.desk.specs.Begin.{beginReply};
+ghost use Rattle.desk.specs.Begin.{beginReply, beginSaid};
+ghost use Rattle.desk.specs.Told.{beginTold};
 use crate::coherence::coherent;
 use crate::entering::session_fault;
 use crate::session::is_idle;
@@ -20,7 +21,8 @@ pub struct BeginReply {
 
 impl Desk {
     pub fn begin(mut self, session: u64) -> BeginReply
-        ensures { λ r. ⌜ r ≡ beginReply self session ⌝ }
+        ensures reply { λ r. ⌜ r ≡ beginReply self session ⌝ }
+        ensures told { λ r. ⌜ beginTold (r .answer) ≡ beginSaid self session ⌝ }
     {
         let sound = coherent(self);
         let m = self.m;

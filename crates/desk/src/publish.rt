@@ -1,6 +1,7 @@
 // Publish: a sealed session's end is clock + 1, and the clock becomes that.
 ghost use mathlib.Core.Path.{_≡_};
-ghost use Rattle.desk.specs.Publish.{publishReply};
+ghost use Rattle.desk.specs.Publish.{publishReply, publishSaid};
+ghost use Rattle.desk.specs.Told.{publishTold};
 use crate::coherence::coherent;
 use crate::entering::session_fault;
 use crate::session::is_sealed;
@@ -20,7 +21,8 @@ pub struct PublishReply {
 
 impl Desk {
     pub fn publish(mut self, session: u64) -> PublishReply
-        ensures { λ r. ⌜ r ≡ publishReply self session ⌝ }
+        ensures reply { λ r. ⌜ r ≡ publishReply self session ⌝ }
+        ensures told { λ r. ⌜ publishTold (r .answer) ≡ publishSaid self session ⌝ }
     {
         let sound = coherent(self);
         let m = self.m;

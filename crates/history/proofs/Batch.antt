@@ -60,8 +60,8 @@ module _ (ws : List Write) (b n : ℕ) (img : List ℕ) (fit : Fit ws b img) whe
       go (inl e) = inl e
       go (inr h) = inr (stored-in j _ ws h)
 
-  mid-base : getD mid b 0 ≡ getD img b 0
-  mid-base = go (mid-word b)
+  mid-slotAt : getD mid b 0 ≡ getD img b 0
+  mid-slotAt = go (mid-word b)
     where
       go : (getD mid b 0 ≡ getD img b 0) ⊎ In b (getD mid b 0) ws → getD mid b 0 ≡ getD img b 0
       go (inl e) = e
@@ -87,7 +87,7 @@ module _ (ws : List Write) (b n : ℕ) (img : List ℕ) (fit : Fit ws b img) whe
 
       at-b : (getD img′ b 0 ≡ getD mid b 0) ⊎ ((b ≡ b) × (getD img′ b 0 ≡ n))
           → (getD img′ b 0 ≡ getD img b 0) ⊎ ((getD img′ b 0 ≡ n) × ((i w : ℕ) → In i w ws → getD img′ i 0 ≡ w))
-      at-b (inl s) = inl (s ∙ mid-base)
+      at-b (inl s) = inl (s ∙ mid-slotAt)
       at-b (inr c) = inr (c .1, λ i w d. other i (fit .apart i w d) ∙ mid-written i w d)
 
   stored-ending : (j v : ℕ) → Stored j v (ending b n) → (j ≡ b) × (v ≡ n)

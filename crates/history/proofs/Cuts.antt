@@ -1,15 +1,16 @@
 -- What a cut of entries leaves of an image, word by word. Nothing here knows of logs or of where they lie.
-use Prim.Native.Nat.{ℕ, zero, suc, _<_}
-use mathlib.Core.Path.{_≡_, refl, ap, _∙_}
+use Prim.Native.Nat.{ℕ, zero, suc, _+_, _<_}
+use mathlib.Core.Path.{_≡_, refl, sym, ap, _∙_}
 use mathlib.Core.Logic.{_⊎_, inl, inr}
-use mathlib.Core.Bool.{Bool, true, false, cond, _||_}
-use mathlib.Core.List.{List, [], _∷_, _++_}
+use mathlib.Core.Bool.{Bool, true, false, cond, _||_, false≢true}
+use mathlib.Core.List.{List, [], _∷_, _++_, append-nil}
 use native.Mathlib.Decide.{ℕ-discrete, decLt}
+use native.Mathlib.Nat.{add-zero}
 use native.Mathlib.Omega.{arith}
 use lib.ListN.{length, getD, set, take, length-set}
 use lib.Seq.{getD-set-same, getD-set-other, set-out}
 use Rattle.history.specs.Log.{Write, In}
-use Rattle.layout.specs.Entries.{Entry, store, fence, made, stores}
+use Rattle.layout.specs.Entries.{Entry, store, fence, made, stores, endsFenced}
 use Rattle.layout.specs.Crash.{fenced, arrived, crashed as cut}
 
 -- the entries store w at i
@@ -136,3 +137,50 @@ cut-fence k sel xs ys img = go (take-fence k xs ys)
         ⊎ ((l m : ℕ) × (cut k sel (xs ++ fence ∷ ys) img ≡ arrived sel m (take l ys) (made xs img)))
     go (inl c) = inl (c .0, rw (c .1) refl)
     go (inr c) = inr (c .0, (arrived-fence sel zero xs (take (c .0) ys) img) .0, rw (c .1) ((arrived-fence sel zero xs (take (c .0) ys) img) .1))
+
+-- ---- behind a list that ends with a fence, or is empty
+
+fenced-behind : (xs : List Entry) (x : Entry) (ys : List Entry) → endsFenced (x ∷ xs) ≡ true → fenced ((x ∷ xs) ++ ys) ≡ true
+fenced-behind [] (store i w) ys e = absurd (false≢true e)
+fenced-behind [] fence ys e = refl
+fenced-behind (y ∷ xs) (store i w) ys e = fenced-behind xs y ys e
+fenced-behind (y ∷ xs) fence ys e = refl
+
+-- the crash of the rest is as it is on the image with that list made
+arrived-behind : (sel : ℕ → Bool) (n : ℕ) (xs ys : List Entry) (img : List ℕ) → endsFenced xs ≡ true
+    → (m : ℕ) × (arrived sel n (xs ++ ys) img ≡ arrived sel m ys (made xs img))
+arrived-behind sel n [] ys img e = (n, refl)
+arrived-behind sel n (store i w ∷ []) ys img e = absurd (false≢true e)
+arrived-behind sel n (fence ∷ []) ys img e = (suc n, refl)
+arrived-behind sel n (fence ∷ x ∷ xs) ys img e = arrived-behind sel (suc n) (x ∷ xs) ys img e
+arrived-behind sel n (store i w ∷ x ∷ xs) ys img e =
+    let r = arrived-behind sel (suc n) (x ∷ xs) ys (set img i w) e in
+    (r .0, ap (λ b. arrived sel (suc n) ((x ∷ xs) ++ ys) (cond (b || sel n) (set img i w) img)) (fenced-behind xs x ys e) ∙ r .1)
+
+next : (m n : ℕ) → suc (m + n) ≡ m + suc n
+next m n = omega arith
+
+-- the entries counted from another number
+arrived-from : (sel : ℕ → Bool) (m n : ℕ) (es : List Entry) (img : List ℕ) → arrived sel (m + n) es img ≡ arrived (λ k. sel (m + k)) n es img
+arrived-from sel m n [] img = refl
+arrived-from sel m n (fence ∷ es) img = ap (λ k. arrived sel k es img) (next m n) ∙ arrived-from sel m (suc n) es img
+arrived-from sel m n (store i w ∷ es) img =
+    ap (λ k. arrived sel k es (cond (fenced es || sel (m + n)) (set img i w) img)) (next m n)
+    ∙ arrived-from sel m (suc n) es (cond (fenced es || sel (m + n)) (set img i w) img)
+
+pub crash-behind : (k : ℕ) (sel : ℕ → Bool) (xs ys : List Entry) (img : List ℕ) → endsFenced xs ≡ true
+    → (sel′ : ℕ → Bool) × (arrived sel zero (xs ++ take k ys) img ≡ cut k sel′ ys (made xs img))
+crash-behind k sel xs ys img e =
+    let r = arrived-behind sel zero xs (take k ys) img e in
+    (λ j. sel (r .0 + j), r .1 ∙ ap (λ j. arrived sel j (take k ys) (made xs img)) (sym (add-zero (r .0))) ∙ arrived-from sel (r .0) zero (take k ys) (made xs img))
+
+-- all of it has arrived
+pub arrived-all : (sel : ℕ → Bool) (xs : List Entry) (img : List ℕ) → endsFenced xs ≡ true → arrived sel zero xs img ≡ made xs img
+arrived-all sel xs img e = ap (λ es. arrived sel zero es img) (sym (append-nil xs)) ∙ arrived-behind sel zero xs [] img e .1
+
+pub ends-append : (xs ys : List Entry) → endsFenced xs ≡ true → endsFenced ys ≡ true → endsFenced (xs ++ ys) ≡ true
+ends-append [] ys e f = f
+ends-append (store i w ∷ []) ys e f = absurd (false≢true e)
+ends-append (fence ∷ []) [] e f = refl
+ends-append (fence ∷ []) (y ∷ ys) e f = f
+ends-append (x ∷ y ∷ xs) ys e f = ends-append (y ∷ xs) ys e f

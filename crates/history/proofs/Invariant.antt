@@ -11,8 +11,9 @@ use lib.ListN.{length, getD}
 use lib.Dec.{leb}
 use Rattle.history.specs.Log.{In, State, Puts, Final}
 use Rattle.history.specs.Desk.{Copy, spot, writes, Session, idle, active, sealed, published, copies, Desk, upd}
-use Rattle.history.specs.History.{History, last, seen-at}
-use Rattle.history.specs.Calls.{place, shown}
+use Rattle.layout.specs.Image.{placeOf}
+use Rattle.history.specs.History.{History, recordOf, viewAt}
+use Rattle.history.specs.Due.{shownTo}
 use Rattle.history.proofs.Copies.{Mem, Fresh, Distinct, Below, Apart, upd-same, upd-other}
 use Rattle.history.proofs.Book.{Own}
 
@@ -26,7 +27,7 @@ pub record Active (N : ℕ) (v : State) (h : History) (clock t b q : ℕ) (cs : 
   pub lawful : Lawful N cs
   pub begun : b ≤ clock
   pub reserved : q < 2
-  pub vacant : 1 ≤ length cs → v .number (place t q) ≡ 0
+  pub vacant : 1 ≤ length cs → v .number (placeOf t q) ≡ 0
   pub drafted : h .draft t ≡ cs
   pub noted : h .start t ≡ b
 
@@ -35,15 +36,15 @@ pub record Logged (N : ℕ) (v : State) (h : History) (t q : ℕ) (cs : List Cop
   pub lawful : Lawful N cs
   pub some-copy : 1 ≤ length cs
   pub reserved : q < 2
-  pub occupied : v .number (place t q) ≢ 0
-  pub only : (i w : ℕ) → In i w (v .log (place t q)) → In i w (writes cs)
-  pub covers : (r : ℕ) (ws : List ℕ) → Mem r ws cs → (j : ℕ) → j < 4 → In (spot r j) (getD ws j 0) (v .log (place t q)) ⊎ (v .home (spot r j) ≡ getD ws j 0)
-  pub entry : Own t cs o (h .seals)
+  pub occupied : v .number (placeOf t q) ≢ 0
+  pub only : (i w : ℕ) → In i w (v .log (placeOf t q)) → In i w (writes cs)
+  pub covers : (r : ℕ) (ws : List ℕ) → Mem r ws cs → (j : ℕ) → j < 4 → In (spot r j) (getD ws j 0) (v .log (placeOf t q)) ⊎ (v .home (spot r j) ≡ getD ws j 0)
+  pub entry : Own t cs o (h .sealed)
 
 abbrev pub Fine : ℕ → State → History → ℕ → ℕ → Session → Type 0
 Fine N v h clock t idle = Unit {0}
 Fine N v h clock t (active b q cs) = Active N v h clock t b q cs
-Fine N v h clock t (sealed n q cs) = Logged N v h t q cs none × (v .number (place t q) ≡ n)
+Fine N v h clock t (sealed n q cs) = Logged N v h t q cs none × (v .number (placeOf t q) ≡ n)
 Fine N v h clock t (published e q cs) = Logged N v h t q cs (some e) × (e ≤ clock)
 
 abbrev pub unpublished : Session → List Copy
@@ -57,6 +58,10 @@ kept idle = []
 kept (active b q cs) = []
 kept (sealed n q cs) = cs
 kept (published e q cs) = cs
+
+-- what a session shows to a reader with the start σ
+abbrev pub shown : ℕ → Session → List Copy
+shown σ x = cond (shownTo σ x) (copies x) []
 
 -- the session is active with the start σ
 abbrev pub Starts : ℕ → Session → Type 0
@@ -79,9 +84,9 @@ pub record Inv (N M : ℕ) (v : State) (d : Desk) (h : History) : Type 0 where
   pub newer : (p r j x : ℕ) → j < 4 → Puts (2 * M) v p (spot r j) x → NoOne M unpublished d r → v .number p < d .clock
   pub fine : (t : ℕ) → t < M → Fine N v h (d .clock) t (d .session t)
   pub excl : (t u : ℕ) → t < M → u < M → t ≢ u → Apart (copies (d .session t)) (copies (d .session u))
-  pub final : (r j : ℕ) → r < N → j < 4 → Final (2 * M) v (spot r j) (getD (last h r) j 0)
-  pub views : (r σ : ℕ) → r < N → Live M d σ → NoOne M (shown σ) d r → (j : ℕ) → j < 4 → v .home (spot r j) ≡ getD (seen-at h σ r) j 0
-  pub lasts : (r : ℕ) → r < N → NoOne M kept d r → (j : ℕ) → j < 4 → v .home (spot r j) ≡ getD (last h r) j 0
+  pub final : (r j : ℕ) → r < N → j < 4 → Final (2 * M) v (spot r j) (getD (recordOf h r) j 0)
+  pub views : (r σ : ℕ) → r < N → Live M d σ → NoOne M (shown σ) d r → (j : ℕ) → j < 4 → v .home (spot r j) ≡ getD (viewAt h σ r) j 0
+  pub lasts : (r : ℕ) → r < N → NoOne M kept d r → (j : ℕ) → j < 4 → v .home (spot r j) ≡ getD (recordOf h r) j 0
 
 -- ---- parts of a session's copies
 
@@ -160,16 +165,16 @@ live-back M t clock clock′ σ x f c s (inr k) = go (ℕ-discrete (k .0) t) (k 
 
 -- another session is as fine as it was
 pub record Aside (v v′ : State) (h h′ : History) (u : ℕ) (x : Session) : Type 0 where
-  pub numbers : (q : ℕ) → q < 2 → v′ .number (place u q) ≡ v .number (place u q)
-  pub logs : (q : ℕ) → q < 2 → v′ .log (place u q) ≡ v .log (place u q)
+  pub numbers : (q : ℕ) → q < 2 → v′ .number (placeOf u q) ≡ v .number (placeOf u q)
+  pub logs : (q : ℕ) → q < 2 → v′ .log (placeOf u q) ≡ v .log (placeOf u q)
   pub drafts : h′ .draft u ≡ h .draft u
   pub starts : h′ .start u ≡ h .start u
-  pub owns : (o : Option ℕ) → Own u (copies x) o (h .seals) → Own u (copies x) o (h′ .seals)
+  pub owns : (o : Option ℕ) → Own u (copies x) o (h .sealed) → Own u (copies x) o (h′ .sealed)
   pub homes : (r : ℕ) (ws : List ℕ) → Mem r ws (copies x) → (j : ℕ) → j < 4 → v′ .home (spot r j) ≡ v .home (spot r j)
 
 logged-aside : (N u q : ℕ) (cs : List Copy) (o : Option ℕ) (v v′ : State) (h h′ : History)
-    → v′ .number (place u q) ≡ v .number (place u q) → v′ .log (place u q) ≡ v .log (place u q)
-    → (Own u cs o (h .seals) → Own u cs o (h′ .seals)) → ((r : ℕ) (ws : List ℕ) → Mem r ws cs → (j : ℕ) → j < 4 → v′ .home (spot r j) ≡ v .home (spot r j))
+    → v′ .number (placeOf u q) ≡ v .number (placeOf u q) → v′ .log (placeOf u q) ≡ v .log (placeOf u q)
+    → (Own u cs o (h .sealed) → Own u cs o (h′ .sealed)) → ((r : ℕ) (ws : List ℕ) → Mem r ws cs → (j : ℕ) → j < 4 → v′ .home (spot r j) ≡ v .home (spot r j))
     → Logged N v h u q cs o → Logged N v′ h′ u q cs o
 logged-aside N u q cs o v v′ h h′ en el ow hs g = record {
   lawful = g .lawful;
@@ -181,8 +186,8 @@ logged-aside N u q cs o v v′ h h′ en el ow hs g = record {
   entry = ow (g .entry);
 }
   where
-    go : (r : ℕ) (ws : List ℕ) → Mem r ws cs → (j : ℕ) → j < 4 → In (spot r j) (getD ws j 0) (v .log (place u q)) ⊎ (v .home (spot r j) ≡ getD ws j 0)
-        → In (spot r j) (getD ws j 0) (v′ .log (place u q)) ⊎ (v′ .home (spot r j) ≡ getD ws j 0)
+    go : (r : ℕ) (ws : List ℕ) → Mem r ws cs → (j : ℕ) → j < 4 → In (spot r j) (getD ws j 0) (v .log (placeOf u q)) ⊎ (v .home (spot r j) ≡ getD ws j 0)
+        → In (spot r j) (getD ws j 0) (v′ .log (placeOf u q)) ⊎ (v′ .home (spot r j) ≡ getD ws j 0)
     go r ws m j lj (inl k) = inl (rw el k)
     go r ws m j lj (inr e) = inr (hs r ws m j lj ∙ e)
 

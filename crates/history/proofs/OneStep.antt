@@ -6,19 +6,20 @@ use mathlib.Core.List.{List}
 use native.Mathlib.Omega.{arith}
 use lib.ListN.{getD}
 use Rattle.history.specs.Log.{In, Occupied, Puts}
-use Rattle.history.specs.Layout.{Home, base, body, denoted, view, Good}
+use Rattle.layout.specs.Image.{slotAt}
+use Rattle.history.specs.Layout.{Home, body, denoted, view, Good}
 use Rattle.history.proofs.Abstract.{Step, number-back, occupied-back, puts-back}
 use Rattle.history.proofs.Batch.{Words}
 use Rattle.history.proofs.Denoted.{sound-home}
-use Rattle.history.proofs.Places.{body-same, home-apart, base-apart, inside-apart}
+use Rattle.history.proofs.Places.{body-same, home-apart, slotAt-apart, inside-apart}
 
 -- over an image: `Words` at slot p is a `Step`, and keeps the image good
-module _ (N M : ℕ) (img img′ : List ℕ) (p : ℕ) (good : Good N M img) (occ : Occupied (2 * M) (view N img) p) (ws : Words (denoted (body N img p)) (base N p) 0 img img′) where
+module _ (N M : ℕ) (img img′ : List ℕ) (p : ℕ) (good : Good N M img) (occ : Occupied (2 * M) (view N img) p) (ws : Words (denoted (body N img p)) (slotAt N p) 0 img img′) where
   homes : (i w : ℕ) → In i w (denoted (body N img p)) → Home N i
   homes = sound-home N (body N img p) (good .sound p occ)
 
   -- a word that is no home word and not slot p's number is as it was
-  beyond : (j : ℕ) → 4 + 4 * N ≤ j → j ≢ base N p → getD img′ j 0 ≡ getD img j 0
+  beyond : (j : ℕ) → 4 + 4 * N ≤ j → j ≢ slotAt N p → getD img′ j 0 ≡ getD img j 0
   beyond j lo n = go (ws .word j n)
     where
       go : (getD img′ j 0 ≡ getD img j 0) ⊎ In j (getD img′ j 0) (denoted (body N img p)) → getD img′ j 0 ≡ getD img j 0
@@ -31,8 +32,8 @@ module _ (N M : ℕ) (img img′ : List ℕ) (p : ℕ) (good : Good N M img) (oc
   pub step : Step (2 * M) (Home N) (view N img) (view N img′) p
   step = record {
     log-same = λ q l. ap denoted (bodies q);
-    number-same = λ q l n. beyond (base N q) (omega arith) (base-apart N q p n);
-    home-kept = λ i h. ws .word i (λ e. let lt : i < base N p = home-apart N p i h in omega arith);
+    number-same = λ q l n. beyond (slotAt N q) (omega arith) (slotAt-apart N q p n);
+    home-kept = λ i h. ws .word i (λ e. let lt : i < slotAt N p = home-apart N p i h in omega arith);
     turn = ws .turn;
   }
 
@@ -46,5 +47,5 @@ module _ (N M : ℕ) (img img′ : List ℕ) (p : ℕ) (good : Good N M img) (oc
       back : (q i v : ℕ) → Puts (2 * M) (view N img′) q i v → Puts (2 * M) (view N img) q i v
       back = puts-back (2 * M) (Home N) (view N img) (view N img′) p step
 
-      number : (q : ℕ) {i : ℕ} (v : ℕ) → Puts (2 * M) (view N img′) q i v → getD img′ (base N q) 0 ≡ getD img (base N q) 0
+      number : (q : ℕ) {i : ℕ} (v : ℕ) → Puts (2 * M) (view N img′) q i v → getD img′ (slotAt N q) 0 ≡ getD img (slotAt N q) 0
       number q v a = number-back (2 * M) (Home N) (view N img) (view N img′) p step q (a .occupied)

@@ -6,7 +6,8 @@ use mathlib.Core.List.{List}
 use native.Mathlib.Omega.{arith}
 use lib.ListN.{length, getD, take, drop, length-take, length-drop}
 use lib.Seq.{ext-getD, getD-take, getD-drop}
-use Rattle.history.specs.Layout.{Home, base, body}
+use Rattle.layout.specs.Image.{slotAt}
+use Rattle.history.specs.Layout.{Home, body}
 
 -- a part of a list is known by its words
 pub part-same : (n b : ℕ) (l l′ : List ℕ) → length l′ ≡ length l → ((j : ℕ) → b ≤ j → j < b + n → getD l′ j 0 ≡ getD l j 0) → take n (drop b l′) ≡ take n (drop b l)
@@ -21,15 +22,15 @@ part-same n b l l′ e h = ext-getD 0 (take n (drop b l′)) (take n (drop b l))
         rw (getD-take n (drop b l′) i 0 i<n, getD-take n (drop b l) i 0 i<n, getD-drop b l′ i 0, getD-drop b l i 0) (h (b + i) (omega arith) (omega arith))
 
 pub body-same : (N : ℕ) (img img′ : List ℕ) (p : ℕ) → length img′ ≡ length img
-    → ((j : ℕ) → base N p < j → j < base N p + 22 → getD img′ j 0 ≡ getD img j 0) → body N img′ p ≡ body N img p
-body-same N img img′ p e h = part-same 21 (base N p + 1) img img′ e (λ j lo hi. h j (omega arith) (omega arith))
+    → ((j : ℕ) → slotAt N p < j → j < slotAt N p + 22 → getD img′ j 0 ≡ getD img j 0) → body N img′ p ≡ body N img p
+body-same N img img′ p e h = part-same 21 (slotAt N p + 1) img img′ e (λ j lo hi. h j (omega arith) (omega arith))
 
 -- no home word is a persist number, or lies in a slot; and a slot's words are no other's
-pub home-apart : (N p i : ℕ) → Home N i → i < base N p
+pub home-apart : (N p i : ℕ) → Home N i → i < slotAt N p
 home-apart N p i h = omega arith
 
-pub base-apart : (N p q : ℕ) → p ≢ q → base N p ≢ base N q
-base-apart N p q n e = n (omega arith)
+pub slotAt-apart : (N p q : ℕ) → p ≢ q → slotAt N p ≢ slotAt N q
+slotAt-apart N p q n e = n (omega arith)
 
-pub inside-apart : (N p q j : ℕ) → base N q < j → j < base N q + 22 → j ≢ base N p
+pub inside-apart : (N p q j : ℕ) → slotAt N q < j → j < slotAt N q + 22 → j ≢ slotAt N p
 inside-apart N p q j lo hi e = omega arith

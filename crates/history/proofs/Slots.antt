@@ -11,13 +11,14 @@ use lib.Seq.{getD-take, getD-drop, take-nil}
 use Rattle.history.specs.Log.{Write, In, Functional}
 use Rattle.layout.specs.Entries.{Entry, store, fence, made, stores}
 use Rattle.layout.specs.Crash.{arrived, crashed as cut}
-use Rattle.history.specs.Layout.{Home, base, body, count, rec, word, copy, copies as places, denoted, view, Sound}
+use Rattle.layout.specs.Image.{slotAt}
+use Rattle.history.specs.Layout.{Home, body, count, rec, word, copy, copies as places, denoted, view, Sound}
 use Rattle.history.specs.Batch.{laid}
 use Rattle.history.specs.Desk.{Copy, writes, flat}
-use Rattle.history.specs.Calls.{log-words}
+use Rattle.history.specs.Due.{logWords, settleEntries, clearEntries}
 use Rattle.history.proofs.Cuts.{set-word, Stored, stored-take, stored-in, arrived-word, length-arrived, made-word, length-made, made-written, made-append, cut-fence}
 use Rattle.history.proofs.Batch.{Words, Fit}
-use Rattle.history.proofs.Places.{body-same, base-apart, inside-apart}
+use Rattle.history.proofs.Places.{body-same, slotAt-apart, inside-apart}
 use Rattle.history.proofs.Beside.{laid-in, in-laid}
 use Rattle.history.proofs.Copies.{Mem, Distinct, Below, in-word, mem-one}
 use Rattle.history.proofs.Invariant.{Lawful}
@@ -29,7 +30,7 @@ length-flat : (cs : List Copy) → length (flat cs) ≡ 5 * length cs
 length-flat [] = refl
 length-flat (c ∷ cs) = let h : length (flat cs) ≡ 5 * length cs = length-flat cs in omega arith
 
--- from place k on, the log b holds the copies cs
+-- from placeOf k on, the log b holds the copies cs
 abbrev Placed : List ℕ → ℕ → List Copy → Type 0
 Placed b k [] = Unit {0}
 Placed b k (c ∷ cs) =
@@ -100,72 +101,72 @@ sound N b cs e p g s = record {
 -- ---- finish
 
 module _ (N M : ℕ) (img : List ℕ) (p n : ℕ) (cs : List Copy) (whole : length img ≡ 4 + 4 * N + 44 * M) (inside : p < 2 * M) (few : length cs ≤ 4) where
-  lies : (i v : ℕ) → In i v (laid (base N p + 1) (log-words cs)) → (base N p < i) × (i < base N p + 22) × (v ≡ getD (log-words cs) (i - (base N p + 1)) 0)
+  lies : (i v : ℕ) → In i v (laid (slotAt N p + 1) (logWords cs)) → (slotAt N p < i) × (i < slotAt N p + 22) × (v ≡ getD (logWords cs) (i - (slotAt N p + 1)) 0)
   lies i v h =
-      let l = laid-in (base N p + 1) (log-words cs) i v h in
+      let l = laid-in (slotAt N p + 1) (logWords cs) i v h in
       (omega (arith, l .0), omega (arith, l .1, length-flat cs), l .2)
 
-  pub finish-fit : Fit (laid (base N p + 1) (log-words cs)) (base N p) img
+  pub finish-fit : Fit (laid (slotAt N p + 1) (logWords cs)) (slotAt N p) img
   finish-fit = record {
     functional = λ i v w h k. lies i v h .2 ∙ sym (lies i w k .2);
     apart = λ i w h e. omega (arith, lies i w h .0);
     inside = λ i w h. omega (arith, lies i w h .1);
   }
 
-  module _ (img′ : List ℕ) (ws : Words (laid (base N p + 1) (log-words cs)) (base N p) n img img′) where
-    pub finish-outside : (j : ℕ) → (j < base N p) ⊎ (base N p + 22 ≤ j) → getD img′ j 0 ≡ getD img j 0
+  module _ (img′ : List ℕ) (ws : Words (laid (slotAt N p + 1) (logWords cs)) (slotAt N p) n img img′) where
+    pub finish-outside : (j : ℕ) → (j < slotAt N p) ⊎ (slotAt N p + 22 ≤ j) → getD img′ j 0 ≡ getD img j 0
     finish-outside j o = go (ws .word j (miss o))
       where
-        miss : (j < base N p) ⊎ (base N p + 22 ≤ j) → j ≢ base N p
+        miss : (j < slotAt N p) ⊎ (slotAt N p + 22 ≤ j) → j ≢ slotAt N p
         miss (inl l) e = omega arith
         miss (inr l) e = omega arith
 
-        off : (j < base N p) ⊎ (base N p + 22 ≤ j) → ¬ In j (getD img′ j 0) (laid (base N p + 1) (log-words cs))
+        off : (j < slotAt N p) ⊎ (slotAt N p + 22 ≤ j) → ¬ In j (getD img′ j 0) (laid (slotAt N p + 1) (logWords cs))
         off (inl l) h = omega (arith, lies j _ h .0)
         off (inr l) h = omega (arith, lies j _ h .1)
 
-        go : (getD img′ j 0 ≡ getD img j 0) ⊎ In j (getD img′ j 0) (laid (base N p + 1) (log-words cs)) → getD img′ j 0 ≡ getD img j 0
+        go : (getD img′ j 0 ≡ getD img j 0) ⊎ In j (getD img′ j 0) (laid (slotAt N p + 1) (logWords cs)) → getD img′ j 0 ≡ getD img j 0
         go (inl e) = e
         go (inr h) = absurd (off o h)
 
-    side : (q j : ℕ) → q ≢ p → base N q ≤ j → j < base N q + 22 → (j < base N p) ⊎ (base N p + 22 ≤ j)
+    side : (q j : ℕ) → q ≢ p → slotAt N q ≤ j → j < slotAt N q + 22 → (j < slotAt N p) ⊎ (slotAt N p + 22 ≤ j)
     side q j d lo hi = go (decLt q p)
       where
-        go : Dec (q < p) → (j < base N p) ⊎ (base N p + 22 ≤ j)
+        go : Dec (q < p) → (j < slotAt N p) ⊎ (slotAt N p + 22 ≤ j)
         go (yes l) = inl (omega arith)
         go (no l) = inr (omega arith)
 
     pub finish-bodies : (q : ℕ) → q ≢ p → body N img′ q ≡ body N img q
     finish-bodies q d = body-same N img img′ q (ws .long) (λ j lo hi. finish-outside j (side q j d (omega arith) hi))
 
-    pub finish-numbers : (q : ℕ) → q ≢ p → getD img′ (base N q) 0 ≡ getD img (base N q) 0
-    finish-numbers q d = finish-outside (base N q) (side q (base N q) d (omega arith) (omega arith))
+    pub finish-numbers : (q : ℕ) → q ≢ p → getD img′ (slotAt N q) 0 ≡ getD img (slotAt N q) 0
+    finish-numbers q d = finish-outside (slotAt N q) (side q (slotAt N q) d (omega arith) (omega arith))
 
     pub finish-homes : (i : ℕ) → Home N i → getD img′ i 0 ≡ getD img i 0
     finish-homes i h = finish-outside i (inl (omega arith))
 
     -- all words have arrived: the slot's body begins with the log's words
-    module _ (all : (i w : ℕ) → In i w (laid (base N p + 1) (log-words cs)) → getD img′ i 0 ≡ w) where
-      arrived-words : (i : ℕ) → i < length (log-words cs) → getD (body N img′ p) i 0 ≡ getD (log-words cs) i 0
+    module _ (all : (i w : ℕ) → In i w (laid (slotAt N p + 1) (logWords cs)) → getD img′ i 0 ≡ w) where
+      arrived-words : (i : ℕ) → i < length (logWords cs) → getD (body N img′ p) i 0 ≡ getD (logWords cs) i 0
       arrived-words i l =
           let i< : i < 21 = omega (arith, length-flat cs) in
-          rw (getD-take 21 (drop (base N p + 1) img′) i 0 i<, getD-drop (base N p + 1) img′ i 0)
-          (all (base N p + 1 + i) (getD (log-words cs) i 0) (in-laid (base N p + 1) (log-words cs) i l))
+          rw (getD-take 21 (drop (slotAt N p + 1) img′) i 0 i<, getD-drop (slotAt N p + 1) img′ i 0)
+          (all (slotAt N p + 1 + i) (getD (logWords cs) i 0) (in-laid (slotAt N p + 1) (logWords cs) i l))
 
       counted : count (body N img′ p) ≡ length cs
       counted = arrived-words 0 (omega arith)
 
-      in-place : Placed (body N img′ p) 0 cs
-      in-place = placed (body N img′ p) 0 cs (λ i l. go i l)
+      in-placeOf : Placed (body N img′ p) 0 cs
+      in-placeOf = placed (body N img′ p) 0 cs (λ i l. go i l)
         where
           go : (i : ℕ) → i < length (flat cs) → getD (body N img′ p) (1 + 5 * 0 + i) 0 ≡ getD (flat cs) i 0
           go i l = let z : 1 + 5 * 0 + i ≡ suc i = omega arith in rw z (arrived-words (suc i) (omega arith))
 
       pub finish-log : denoted (body N img′ p) ≡ writes cs
-      finish-log = denotes (body N img′ p) cs counted in-place
+      finish-log = denotes (body N img′ p) cs counted in-placeOf
 
       pub finish-sound : Lawful N cs → 1 ≤ length cs → Sound N (body N img′ p)
-      finish-sound g s = sound N (body N img′ p) cs counted in-place g s
+      finish-sound g s = sound N (body N img′ p) cs counted in-placeOf g s
 
 -- ---- settle
 
@@ -173,9 +174,6 @@ module _ (N M : ℕ) (img : List ℕ) (p n : ℕ) (cs : List Copy) (whole : leng
 pub record Some-of (ws : List Write) (img img′ : List ℕ) : Type 0 where
   pub long : length img′ ≡ length img
   pub word : (j : ℕ) → (getD img′ j 0 ≡ getD img j 0) ⊎ In j (getD img′ j 0) ws
-
-abbrev pub settle-entries : List Copy → List Entry
-settle-entries cs = stores (writes cs) ++ fence ∷ []
 
 module _ (ws : List Write) (img : List ℕ) where
   from-stored : (img′ : List ℕ) → ((j : ℕ) → (getD img′ j 0 ≡ getD img j 0) ⊎ Stored j (getD img′ j 0) (stores ws)) → (j : ℕ) → (getD img′ j 0 ≡ getD img j 0) ⊎ In j (getD img′ j 0) ws
@@ -234,7 +232,7 @@ module _ (N M : ℕ) (img : List ℕ) (cs : List Copy) (img′ : List ℕ) (bl :
 
   pub settle-homing : Homing N (2 * M) (view N img) (view N img′) (writes cs)
   settle-homing = record {
-    number-same = λ q l. settle-beyond (base N q) (omega arith);
+    number-same = λ q l. settle-beyond (slotAt N q) (omega arith);
     log-same = λ q l. ap denoted (settle-bodies q);
     home-kept = λ i h. so .word i;
   }
@@ -249,9 +247,6 @@ writes-functional cs d i v w h k =
     cc (a .content, b .content, ej, ew)
 
 -- ---- reclaim
-
-abbrev pub clear-entries : ℕ → ℕ → List Entry
-clear-entries N p = store (base N p) 0 ∷ fence ∷ []
 
 -- word b is as it was or n, and the others are as they were
 pub record One-word (b n : ℕ) (img img′ : List ℕ) : Type 0 where
@@ -286,22 +281,22 @@ module _ (b n : ℕ) (img : List ℕ) where
       go j (inl e) = inl e
       go j (inr h) = inr (only j _ (stored-take k j _ (store b n ∷ fence ∷ []) h))
 
-module _ (N M : ℕ) (img img′ : List ℕ) (p : ℕ) (ow : One-word (base N p) 0 img img′) where
+module _ (N M : ℕ) (img img′ : List ℕ) (p : ℕ) (ow : One-word (slotAt N p) 0 img img′) where
   pub clear-bodies : (q : ℕ) → body N img′ q ≡ body N img q
   clear-bodies q = body-same N img img′ q (ow .long) (λ j lo hi. ow .others j (inside-apart N p q j lo hi))
 
-  pub clear-emptied : getD img′ (base N p) 0 ≡ 0 → Emptied N (2 * M) (view N img) (view N img′) p
+  pub clear-emptied : getD img′ (slotAt N p) 0 ≡ 0 → Emptied N (2 * M) (view N img) (view N img′) p
   clear-emptied z = record {
     number-p = z;
-    number-same = λ q l d. ow .others (base N q) (base-apart N q p d);
+    number-same = λ q l d. ow .others (slotAt N q) (slotAt-apart N q p d);
     log-same = λ q l. ap denoted (clear-bodies q);
     home-same = λ i h. ow .others i (λ e. omega arith);
   }
 
   -- the word has not turned: nothing has changed
-  pub unturned : getD img′ (base N p) 0 ≡ getD img (base N p) 0 → (j : ℕ) → getD img′ j 0 ≡ getD img j 0
-  unturned e j = go (ℕ-discrete j (base N p))
+  pub unturned : getD img′ (slotAt N p) 0 ≡ getD img (slotAt N p) 0 → (j : ℕ) → getD img′ j 0 ≡ getD img j 0
+  unturned e j = go (ℕ-discrete j (slotAt N p))
     where
-      go : Dec (j ≡ base N p) → getD img′ j 0 ≡ getD img j 0
+      go : Dec (j ≡ slotAt N p) → getD img′ j 0 ≡ getD img j 0
       go (yes x) = rw x e
       go (no d) = ow .others j d

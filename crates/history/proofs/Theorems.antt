@@ -1,5 +1,5 @@
--- Crash recovery: whatever attempts at recovery are broken off, and wherever, the whole steps after them leave each home word's final word.
-use Prim.Native.Nat.{ℕ, zero, suc, _*_, _≤_, _<_}
+-- Crash recovery: an attempt at a step, whole or broken off anywhere, keeps each home word's final word, and a whole step empties a slot.
+use Prim.Native.Nat.{ℕ, suc, _*_, _<_}
 use mathlib.Core.Path.{_≡_, refl}
 use mathlib.Core.Logic.{_⊎_, inl, inr, _≢_}
 use mathlib.Core.Option.{Option, none, some}
@@ -7,15 +7,16 @@ use mathlib.Core.List.{List, [], _∷_}
 use native.Mathlib.Omega.{arith}
 use lib.ListN.{length, getD}
 use lib.Seq.{take-nil}
-use Rattle.history.specs.Log.{In, Occupied, Final, Clean, busy}
+use Rattle.history.specs.Log.{In, Occupied, Final, busy}
 use Rattle.layout.specs.Entries.{Entry}
-use Rattle.history.specs.Layout.{Home, base, body, denoted, view, Good}
-use Rattle.history.specs.Recover.{oldest, applied, from, recover, Attempt, whole, broken, run, attempt, attempts, steps}
+use Rattle.layout.specs.Image.{slotAt}
+use Rattle.history.specs.Layout.{Home, body, denoted, view, Good}
+use Rattle.history.specs.Recover.{oldest, applied, from, recover, Attempt, whole, broken, run, attempt}
 use Rattle.history.proofs.Abstract.{final-kept}
 use Rattle.history.proofs.Denoted.{sound-home, sound-functional}
 use Rattle.history.proofs.OneStep.{step, still-good}
 use Rattle.history.proofs.Batch.{Words, Fit, cut-words, made-words, made-turned}
-use Rattle.history.proofs.Choice.{Best, First, best, busy-none, busy-clean, busy-fewer}
+use Rattle.history.proofs.Choice.{Best, First, best, busy-fewer}
 
 -- img′ is good where img is, and has the same final words
 pub record Carries (N M : ℕ) (img img′ : List ℕ) : Type 0 where
@@ -27,33 +28,34 @@ module _ (N M : ℕ) (img : List ℕ) (g : Good N M img) where
     occ : Occupied (2 * M) (view N img) p
     occ = f .found .occupied
 
-    fits : base N p < length img
+    fits : slotAt N p < length img
     fits = omega (arith, g .whole, occ .0)
 
     home : (i w : ℕ) → In i w (denoted (body N img p)) → Home N i
     home = sound-home N (body N img p) (g .sound p occ)
 
-    fit : Fit (denoted (body N img p)) (base N p) img
+    fit : Fit (denoted (body N img p)) (slotAt N p) img
     fit = record {
       functional = sound-functional N (body N img p) (g .sound p occ);
       apart = λ i w h e. omega (arith, home i w h);
       inside = λ i w h. omega (arith, home i w h, fits);
     }
 
-    run-words : (a : Attempt) → Words (denoted (body N img p)) (base N p) 0 img (run a (applied N img p) img)
-    run-words whole = made-words (denoted (body N img p)) (base N p) 0 img fit
-    run-words (broken k sel) = cut-words (denoted (body N img p)) (base N p) 0 img fit k sel
+    run-words : (a : Attempt) → Words (denoted (body N img p)) (slotAt N p) 0 img (run a (applied N img p) img)
+    run-words whole = made-words (denoted (body N img p)) (slotAt N p) 0 img fit
+    run-words (broken k sel) = cut-words (denoted (body N img p)) (slotAt N p) 0 img fit k sel
 
-    words-carry : (img′ : List ℕ) → Words (denoted (body N img p)) (base N p) 0 img img′ → Carries N M img img′
+    words-carry : (img′ : List ℕ) → Words (denoted (body N img p)) (slotAt N p) 0 img img′ → Carries N M img img′
     words-carry img′ ws = record {
       good = still-good N M img img′ p g occ ws;
       final = λ i w h. final-kept (2 * M) (Home N) (view N img) (view N img′) p (step N M img img′ p g occ ws) (f .found) i w h;
     }
 
-    one-fewer : suc (busy (view N (run whole (applied N img p) img) .number) (2 * M)) ≡ busy (view N img .number) (2 * M)
+    -- T2: a whole step empties the slot
+    pub one-fewer : suc (busy (view N (run whole (applied N img p) img) .number) (2 * M)) ≡ busy (view N img .number) (2 * M)
     one-fewer =
         busy-fewer (view N img .number) (view N (run whole (applied N img p) img) .number) (2 * M) p (occ .0) (occ .1)
-        (made-turned (denoted (body N img p)) (base N p) 0 img fit fits)
+        (made-turned (denoted (body N img p)) (slotAt N p) 0 img fit fits)
         (step N M img (run whole (applied N img p) img) p g occ (run-words whole) .number-same)
 
   run-nothing : (a : Attempt) → run a [] img ≡ img
@@ -70,7 +72,7 @@ module _ (N M : ℕ) (img : List ℕ) (g : Good N M img) where
       go (some p) f = words-carry p f _ (run-words p f a)
 
   -- and touches nothing but home words and persist numbers: no header, no log
-  pub attempt-elsewhere : (a : Attempt) (j : ℕ) → ¬ Home N j → ((p : ℕ) → j ≢ base N p) → getD (attempt N M a img) j 0 ≡ getD img j 0
+  pub attempt-elsewhere : (a : Attempt) (j : ℕ) → ¬ Home N j → ((p : ℕ) → j ≢ slotAt N p) → getD (attempt N M a img) j 0 ≡ getD img j 0
   unfolding attempt recover
   attempt-elsewhere a j nh nb = go (oldest (view N img) (2 * M)) (best (view N img) (2 * M))
     where
@@ -81,34 +83,3 @@ module _ (N M : ℕ) (img : List ℕ) (g : Good N M img) where
       go : (o : Option ℕ) → Best (view N img) (2 * M) o → getD (run a (from N img o) img) j 0 ≡ getD img j 0
       go none c = rw (run-nothing a) refl
       go (some p) f = same p f _ (run-words p f a .word j (nb p))
-
-  -- T2: a whole step empties one slot, where one is occupied
-  whole-down : (n : ℕ) → busy (view N img .number) (2 * M) ≤ suc n → busy (view N (attempt N M whole img) .number) (2 * M) ≤ n
-  unfolding attempt recover
-  whole-down n h = go (oldest (view N img) (2 * M)) (best (view N img) (2 * M))
-    where
-      go : (b : Option ℕ) → Best (view N img) (2 * M) b → busy (view N (run whole (from N img b) img) .number) (2 * M) ≤ n
-      go none c = omega (arith, busy-clean (view N img .number) (2 * M) c)
-      go (some q) f = omega (arith, one-fewer q f)
-
--- as many whole steps as slots are occupied leave none
-pub steps-clean : (N M n : ℕ) (img : List ℕ) → Good N M img → busy (view N img .number) (2 * M) ≤ n → Clean (2 * M) (view N (steps N M n img))
-unfolding steps
-steps-clean N M zero img g h = busy-none (view N img .number) (2 * M) (omega arith)
-steps-clean N M (suc n) img g h = steps-clean N M n (attempt N M whole img) (attempt-carries N M img g whole .good) (whole-down N M img g n h)
-
-pub steps-carry : (N M n : ℕ) (img : List ℕ) → Good N M img → Carries N M img (steps N M n img)
-unfolding steps
-steps-carry N M zero img g = record { good = g; final = λ i w h f. f }
-steps-carry N M (suc n) img g =
-    let c = attempt-carries N M img g whole in
-    let d = steps-carry N M n (attempt N M whole img) (c .good) in
-    record { good = d .good; final = λ i w h f. d .final i w h (c .final i w h f) }
-
-pub attempts-carry : (N M : ℕ) (tries : List Attempt) (img : List ℕ) → Good N M img → Carries N M img (attempts N M tries img)
-unfolding attempts
-attempts-carry N M [] img g = record { good = g; final = λ i w h f. f }
-attempts-carry N M (a ∷ rest) img g =
-    let c = attempt-carries N M img g a in
-    let d = attempts-carry N M rest (attempt N M a img) (c .good) in
-    record { good = d .good; final = λ i w h f. d .final i w h (c .final i w h f) }

@@ -57,8 +57,8 @@ unfoldable pub upd : {A : Type 0} → ℕ → A → (ℕ → A) → ℕ → A
 upd s a f u = cond (eqb u s) a (f u)
 
 -- the desk with another entry for session s
-abbrev pub with-session : ℕ → Session → Desk → Desk
-with-session s x d = record { clock = d .clock; session = upd s x (d .session) }
+abbrev pub withSession : ℕ → Session → Desk → Desk
+withSession s x d = record { clock = d .clock; session = upd s x (d .session) }
 
 -- the least number below k that passes the test
 abbrev pub later : (ℕ → Bool) → ℕ → Option ℕ → Option ℕ

@@ -4,19 +4,16 @@ use mathlib.Core.Path.{_≡_}
 use mathlib.Core.Logic.{_≢_}
 use mathlib.Core.List.{List, [], _∷_, _++_}
 use lib.ListN.{length, getD, take, drop}
+use Rattle.layout.specs.Image.{slotAt}
 use Rattle.history.specs.Log.{Write, State, Occupied, Puts}
 
 -- i is the index of a home word
 abbrev pub Home : ℕ → ℕ → Type 0
 Home N i = (4 ≤ i) × (i < 4 + 4 * N)
 
--- the index of slot p's persist number
-abbrev pub base : ℕ → ℕ → ℕ
-base N p = 4 + 4 * N + 22 * p
-
 -- the 21 words of slot p behind its persist number: a count, and four places of 5 words
 abbrev pub body : ℕ → List ℕ → ℕ → List ℕ
-body N img p = take 21 (drop (base N p + 1) img)
+body N img p = take 21 (drop (slotAt N p + 1) img)
 
 abbrev pub count : List ℕ → ℕ
 count b = getD b 0 0
@@ -50,10 +47,10 @@ pub record Sound (N : ℕ) (b : List ℕ) : Type 0 where
   pub different : (k l : ℕ) → k < count b → l < count b → rec b k ≡ rec b l → k ≡ l
 
 abbrev pub view : ℕ → List ℕ → State
-view N img = record { number = λ p. getD img (base N p) 0; log = λ p. denoted (body N img p); home = λ i. getD img i 0 }
+view N img = record { number = λ p. getD img (slotAt N p) 0; log = λ p. denoted (body N img p); home = λ i. getD img i 0 }
 
 pub record Good (N M : ℕ) (img : List ℕ) : Type 0 where
   pub whole : length img ≡ 4 + 4 * N + 44 * M
   pub sound : (p : ℕ) → Occupied (2 * M) (view N img) p → Sound N (body N img p)
   pub apart : (p q i v w : ℕ) → p ≢ q → Puts (2 * M) (view N img) p i v → Puts (2 * M) (view N img) q i w
-      → getD img (base N p) 0 ≢ getD img (base N q) 0
+      → getD img (slotAt N p) 0 ≢ getD img (slotAt N q) 0

@@ -1,176 +1,114 @@
--- The ledger: what the calls and their answers alone say of the clock, the sessions and the slots. From it the next answer is due.
+-- The ledger: what a list of calls with what they tell says, with no image.
 use Prim.Native.Nat.{ℕ, suc}
-use mathlib.Core.Bool.{cond}
+use mathlib.Core.Bool.{Bool, true, false, cond, not, _&&_}
 use mathlib.Core.Option.{Option, none, some}
 use mathlib.Core.List.{List, [], _∷_}
-use lib.ListN.{getD}
 use lib.Dec.{eqb, leb}
-use Rattle.history.specs.Log.{State}
-use Rattle.history.specs.Desk.{Copy, find, put, Session, idle, active, sealed, published, Desk, upd, with-session, holder}
-use Rattle.history.specs.History.{Call, begin, read, write, abandon, finish, publish, settle, reclaim, Answer, refused, taken, ok}
-use Rattle.history.specs.History.{start, own, copied, home, empty, sealed-at, ended-at, wait, nothing, held, cleared, History, feed}
-use Rattle.history.specs.History.{seen-at}
-use Rattle.history.specs.Calls.{place, say, begins, shown, held-by, wrote, abandons, finishes, publishes, settles, candidate}
-use Rattle.history.specs.Calls.{reclaims}
-use Rattle.history.specs.Run.{slot-of}
+use Rattle.layout.specs.Image.{placeOf}
+use Rattle.layout.specs.Told.{Told, is, refusedBy, valueOf, Ok, Start, Empty, Sealed, End, Cleared}
+use Rattle.history.specs.Call.{Call, begin, read, write, abandon, finish, publish, settle, reclaim}
+use Rattle.history.specs.Desk.{Copy, put, Session, idle, active, sealed, published, Desk, upd, withSession}
+use Rattle.history.specs.History.{History, feed}
 
--- what an answer says
-pub data Said : Type 0 where
-  fine : Said
-  dropped : Said
-  numbered : ℕ → Said
-  other : Said
-
-abbrev pub said : Answer → Said
-said ok = fine
-said (taken t) = dropped
-said empty = dropped
-said (start b) = numbered b
-said (sealed-at n) = numbered n
-said (ended-at e) = numbered e
-said (cleared n) = numbered n
-said (refused n) = other
-said (own ws) = other
-said (copied ws) = other
-said (home ws) = other
-said (wait t) = other
-said nothing = other
-said (held n) = other
-
--- the lowest empty slot is reserved at the first copy
-abbrev pub reslot : ℕ → (ℕ → ℕ) → ℕ → List Copy → ℕ
-reslot s f q [] = cond (eqb (f (place s 0)) 0) 0 1
-reslot s f q (c ∷ cs) = q
-
-abbrev pub rewrite : ℕ → ℕ → List ℕ → (ℕ → ℕ) → Session → Session
-rewrite s r ws f idle = idle
-rewrite s r ws f (active b q cs) = active b (reslot s f q cs) (put r ws cs)
-rewrite s r ws f (sealed n q cs) = sealed n q cs
-rewrite s r ws f (published e q cs) = published e q cs
-
-abbrev pub reseal : ℕ → Session → Session
-reseal m idle = idle
-reseal m (active b q cs) = sealed m q cs
-reseal m (sealed n q cs) = sealed n q cs
-reseal m (published e q cs) = published e q cs
-
-abbrev pub republish : ℕ → Session → Session
-republish m idle = idle
-republish m (active b q cs) = active b q cs
-republish m (sealed n q cs) = published m q cs
-republish m (published e q cs) = published e q cs
-
-abbrev pub on-begin : ℕ → Desk → Said → Desk
-on-begin s d (numbered b) = with-session s (active b 0 []) d
-on-begin s d fine = d
-on-begin s d dropped = d
-on-begin s d other = d
-
-abbrev pub on-write : ℕ → ℕ → List ℕ → (ℕ → ℕ) → Desk → Said → Desk
-on-write s r ws f d fine = with-session s (rewrite s r ws f (d .session s)) d
-on-write s r ws f d dropped = with-session s idle d
-on-write s r ws f d (numbered n) = d
-on-write s r ws f d other = d
-
-abbrev pub on-ok : ℕ → Desk → Said → Desk
-on-ok s d fine = with-session s idle d
-on-ok s d dropped = d
-on-ok s d (numbered n) = d
-on-ok s d other = d
-
-abbrev pub on-finish : ℕ → Desk → Said → Desk
-on-finish s d (numbered n) = with-session s (reseal n (d .session s)) d
-on-finish s d dropped = with-session s idle d
-on-finish s d fine = d
-on-finish s d other = d
-
--- the clock is one more than the ends given
-abbrev pub on-publish : ℕ → Desk → Said → Desk
-on-publish s d (numbered e) = with-session s (republish e (d .session s)) (record { clock = suc (d .clock); session = d .session })
-on-publish s d fine = d
-on-publish s d dropped = d
-on-publish s d other = d
-
--- the clock and the sessions after a call with its answer; f has the slots' numbers
-abbrev pub redesk : Call → Answer → (ℕ → ℕ) → Desk → Desk
-redesk (begin s) a f d = on-begin s d (said a)
-redesk (read s r) a f d = d
-redesk (write s r ws) a f d = on-write s r ws f d (said a)
-redesk (abandon s) a f d = on-ok s d (said a)
-redesk (finish s) a f d = on-finish s d (said a)
-redesk (publish s) a f d = on-publish s d (said a)
-redesk (settle s) a f d = on-ok s d (said a)
-redesk (reclaim s) a f d = d
-
--- a state of which only the numbers matter
-abbrev pub slots : (ℕ → ℕ) → State
-slots f = record { number = f; log = λ p. []; home = λ i. 0 }
-
-abbrev pub fill : ℕ → (ℕ → ℕ) → Desk → Said → ℕ → ℕ
-fill s f d (numbered n) = upd (place s (slot-of (d .session s))) n f
-fill s f d fine = f
-fill s f d dropped = f
-fill s f d other = f
-
-abbrev pub drop-slot : ℕ → (ℕ → ℕ) → Option ℕ → ℕ → ℕ
-drop-slot s f (some q) = upd (place s q) 0 f
-drop-slot s f none = f
-
-abbrev pub unfill : ℕ → (ℕ → ℕ) → Desk → Said → ℕ → ℕ
-unfill s f d (numbered n) = drop-slot s f (candidate (slots f) s (d .session s))
-unfill s f d fine = f
-unfill s f d dropped = f
-unfill s f d other = f
-
-abbrev pub renumber : Call → Answer → (ℕ → ℕ) → Desk → ℕ → ℕ
-renumber (finish s) a f d = fill s f d (said a)
-renumber (reclaim s) a f d = unfill s f d (said a)
-renumber (begin s) a f d = f
-renumber (read s r) a f d = f
-renumber (write s r ws) a f d = f
-renumber (abandon s) a f d = f
-renumber (publish s) a f d = f
-renumber (settle s) a f d = f
-
+-- the clock, which is 1 plus the number of ends given, and what each session is doing; the persist number of each slot, 0 where it is
+-- empty; and the history
 pub record Ledger : Type 0 where
   pub desk : Desk
   pub number : ℕ → ℕ
   pub history : History
 
-unfoldable pub note : Call → Answer → Ledger → Ledger
-note c a L = record
-    { desk = redesk c a (L .number) (L .desk); number = renumber c a (L .number) (L .desk); history = feed c a (L .history) }
+-- ---- the sessions
 
--- ---- the answer that is due
+-- at the first copy the lowest empty slot of the session is reserved
+abbrev pub slotNow : ℕ → (ℕ → ℕ) → ℕ → List Copy → ℕ
+slotNow s f q [] = cond (eqb (f (placeOf s 0)) 0) 0 1
+slotNow s f q (c ∷ cs) = q
 
--- four words of a list: a record as it stands at home
-abbrev pub fourWords : List ℕ → List ℕ
-fourWords ws = getD ws 0 0 ∷ getD ws 1 0 ∷ getD ws 2 0 ∷ getD ws 3 0 ∷ []
+abbrev pub copying : ℕ → ℕ → List ℕ → (ℕ → ℕ) → Session → Session
+copying s r ws f idle = idle
+copying s r ws f (active b q cs) = active b (slotNow s f q cs) (put r ws cs)
+copying s r ws f (sealed n q cs) = sealed n q cs
+copying s r ws f (published e q cs) = published e q cs
 
-abbrev pub due-other : History → ℕ → ℕ → Option (List ℕ) → Answer
-due-other h r b (some ws) = copied ws
-due-other h r b none = home (fourWords (seen-at h b r))
+abbrev pub sealedWith : ℕ → Session → Session
+sealedWith n idle = idle
+sealedWith n (active b q cs) = sealed n q cs
+sealedWith n (sealed m q cs) = sealed m q cs
+sealedWith n (published e q cs) = published e q cs
 
-abbrev pub due-own : History → ℕ → ℕ → Session → Option (List ℕ) → Answer
-due-own h r b x (some ws) = own ws
-due-own h r b x none = due-other h r b (find r (shown b x))
+abbrev pub endedWith : ℕ → Session → Session
+endedWith e idle = idle
+endedWith e (active b q cs) = active b q cs
+endedWith e (sealed n q cs) = published e q cs
+endedWith e (published f q cs) = published f q cs
 
-abbrev pub due-read : ℕ → Desk → History → ℕ → Session → Answer
-due-read M d h r idle = refused 6
-due-read M d h r (active b q cs) = due-own h r b (held-by d (holder M d r)) (find r cs)
-due-read M d h r (sealed n q cs) = refused 6
-due-read M d h r (published e q cs) = refused 6
+-- the clock goes on by one
+abbrev pub ticked : Desk → Desk
+ticked d = record { clock = suc (d .clock); session = d .session }
 
-abbrev pub due-of : ℕ → ℕ → (ℕ → ℕ) → Desk → History → Call → Answer
-due-of N M f d h (begin s) = cond (leb M s) (refused 4) (begins d s (d .session s) .answer)
-due-of N M f d h (read s r) = cond (leb M s) (refused 4) (cond (leb N r) (refused 5) (due-read M d h r (d .session s)))
-due-of N M f d h (write s r ws) = cond (leb M s) (refused 4)
-    (cond (leb N r) (refused 5) (wrote M (slots f) d s r ws (d .session s) .answer))
-due-of N M f d h (abandon s) = cond (leb M s) (refused 4) (abandons d s (d .session s) .answer)
-due-of N M f d h (finish s) = cond (leb M s) (refused 4) (finishes N d s (d .session s) .answer)
-due-of N M f d h (publish s) = cond (leb M s) (refused 4) (publishes d s (d .session s) .answer)
-due-of N M f d h (settle s) = cond (leb M s) (refused 4) (settles M d s (d .session s) .answer)
-due-of N M f d h (reclaim s) = cond (leb M s) (refused 4) (reclaims N M (slots f) d s (candidate (slots f) s (d .session s)) .answer)
+-- the clock and the sessions after a call, by what it tells; f has the slots' numbers
+abbrev pub noteDesk : Call → Told → (ℕ → ℕ) → Desk → Desk
+noteDesk (begin s) t f d = cond (is Start t) (withSession s (active (valueOf t) 0 []) d) d
+noteDesk (read s r) t f d = d
+noteDesk (write s r ws) t f d =
+    cond (is Ok t) (withSession s (copying s r ws f (d .session s)) d) (cond (refusedBy 7 t) (withSession s idle d) d)
+noteDesk (abandon s) t f d = cond (is Ok t) (withSession s idle d) d
+noteDesk (finish len s) t f d =
+    cond (is Sealed t) (withSession s (sealedWith (valueOf t) (d .session s)) d) (cond (is Empty t) (withSession s idle d) d)
+noteDesk (publish s) t f d = cond (is End t) (withSession s (endedWith (valueOf t) (d .session s)) (ticked d)) d
+noteDesk (settle len s) t f d = cond (is Ok t) (withSession s idle d) d
+noteDesk (reclaim len s) t f d = d
 
-unfoldable pub due : ℕ → ℕ → Ledger → Call → Answer
-due N M L c = due-of N M (L .number) (L .desk) (L .history) c
+-- ---- the slots
+
+-- the slot that the session has reserved
+abbrev pub slotOf : Session → ℕ
+slotOf idle = 0
+slotOf (active b q cs) = q
+slotOf (sealed n q cs) = q
+slotOf (published e q cs) = q
+
+-- slot q is not that of a sealed or published transaction
+abbrev pub free : ℕ → Session → Bool
+free q idle = true
+free q (active b p cs) = true
+free q (sealed n p cs) = not (eqb q p)
+free q (published e p cs) = not (eqb q p)
+
+-- of two slots, by whether each is in question: the one with the smaller number, the lower among equals
+abbrev pub choice : ℕ → ℕ → Bool → Bool → Option ℕ
+choice m n false false = none
+choice m n false true = some 1
+choice m n true false = some 0
+choice m n true true = cond (leb m n) (some 0) (some 1)
+
+-- the slot that reclaim takes: occupied, and not that of a sealed or published transaction
+abbrev pub candidate : (ℕ → ℕ) → ℕ → Session → Option ℕ
+candidate f s x =
+    choice (f (placeOf s 0)) (f (placeOf s 1))
+    (not (eqb (f (placeOf s 0)) 0) && free 0 x) (not (eqb (f (placeOf s 1)) 0) && free 1 x)
+
+abbrev pub emptied : ℕ → Option ℕ → (ℕ → ℕ) → ℕ → ℕ
+emptied s none f = f
+emptied s (some q) f = upd (placeOf s q) 0 f
+
+-- the slots' numbers after a call: a slot is occupied from sealed on, and empty again from cleared on
+abbrev pub noteNumber : Call → Told → (ℕ → ℕ) → Desk → ℕ → ℕ
+noteNumber (begin s) t f d = f
+noteNumber (read s r) t f d = f
+noteNumber (write s r ws) t f d = f
+noteNumber (abandon s) t f d = f
+noteNumber (finish len s) t f d = cond (is Sealed t) (upd (placeOf s (slotOf (d .session s))) (valueOf t) f) f
+noteNumber (publish s) t f d = f
+noteNumber (settle len s) t f d = f
+noteNumber (reclaim len s) t f d = cond (is Cleared t) (emptied s (candidate f s (d .session s)) f) f
+
+-- ---- the ledger after a call
+
+unfoldable pub note : Call → Told → Ledger → Ledger
+note c t L =
+    record {
+      desk = noteDesk c t (L .number) (L .desk);
+      number = noteNumber c t (L .number) (L .desk);
+      history = feed c t (L .history);
+    }

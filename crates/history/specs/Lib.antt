@@ -3,8 +3,8 @@ pub mod Batch
 pub mod Layout
 pub mod Recover
 pub mod Desk
+pub mod Call
 pub mod History
-pub mod Calls
-pub mod Run
 pub mod Ledger
-pub mod Right
+pub mod Due
+pub mod Cut

@@ -8,7 +8,8 @@ use Rattle.history.specs.Log.{State}
 use Rattle.layout.specs.Entries.{Entry, made}
 use Rattle.layout.specs.Crash.{crashed as cut}
 use Rattle.history.specs.Batch.{batch}
-use Rattle.history.specs.Layout.{base, body, denoted, view}
+use Rattle.layout.specs.Image.{slotAt}
+use Rattle.history.specs.Layout.{body, denoted, view}
 
 -- the better of the best so far and slot p: an empty slot is none, and among equals the earlier stays
 abbrev pub better : State → Option ℕ → ℕ → Option ℕ
@@ -22,7 +23,7 @@ oldest s (suc k) = better s (oldest s k) k
 
 -- the entries that apply the log of slot p and empty the slot
 abbrev pub applied : ℕ → List ℕ → ℕ → List Entry
-applied N img p = batch (denoted (body N img p)) (base N p) 0
+applied N img p = batch (denoted (body N img p)) (slotAt N p) 0
 
 abbrev pub from : ℕ → List ℕ → Option ℕ → List Entry
 from N img none = []
@@ -39,15 +40,6 @@ abbrev pub run : Attempt → List Entry → List ℕ → List ℕ
 run whole es img = made es img
 run (broken k sel) es img = cut k sel es img
 
--- an attempt at one recovery step, and several in turn
+-- an attempt at one recovery step
 unfoldable pub attempt : ℕ → ℕ → Attempt → List ℕ → List ℕ
 attempt N M a img = run a (recover N M img) img
-
-unfoldable pub attempts : ℕ → ℕ → List Attempt → List ℕ → List ℕ
-attempts N M [] img = img
-attempts N M (a ∷ rest) img = attempts N M rest (attempt N M a img)
-
--- n whole steps
-unfoldable pub steps : ℕ → ℕ → ℕ → List ℕ → List ℕ
-steps N M zero img = img
-steps N M (suc n) img = steps N M n (attempt N M whole img)

@@ -1,6 +1,6 @@
 -- Laws of checks and of what a call gives by them.
 use Prim.Native.Nat.{ℕ, zero, suc, _≤_}
-use mathlib.Core.Bool.{Bool, true, false}
+use mathlib.Core.Bool.{Bool, true, false, cond}
 use mathlib.Core.Path.{_≡_, refl, _∙_}
 use native.Mathlib.Omega.{arith}
 use Rattle.layout.specs.Checks.{unless, first, answered}
@@ -64,3 +64,14 @@ first-most n (suc k) b l m = l
 pub unless-most : (n : ℕ) (ok : Bool) (k : ℕ) → k ≤ n → unless ok k ≤ n
 unless-most n true k l = omega arith
 unless-most n false k l = l
+
+-- a part of what a call gives, and of what it gives by a test
+pub answered-map : {A B : Type 0} (f : A → B) (k : ℕ) (refused : ℕ → A) (done : A) {said : ℕ → B} {b : B}
+    → ((k : ℕ) → f (refused k) ≡ said k) → f done ≡ b → f (answered k refused done) ≡ answered k said b
+unfolding answered
+answered-map f zero refused done r e = e
+answered-map f (suc k) refused done r e = r (suc k)
+
+pub cond-map : {A B : Type 0} (f : A → B) (t : Bool) (x y : A) → f (cond t x y) ≡ cond t (f x) (f y)
+cond-map f true x y = refl
+cond-map f false x y = refl

@@ -1,5 +1,6 @@
 pub mod BelowLaws
 pub mod ChecksLaws
+pub mod ToldLaws
 pub mod Says
 pub mod Shape
 pub mod Groups

@@ -1,7 +1,8 @@
 // Laying an image.
 ghost use mathlib.Core.Path.{_≡_};
 ghost use lib.ListN.{length, replicate};
-ghost use Rattle.layout.specs.Lay.{layFault, layAnswer, laidImage};
+ghost use Rattle.layout.specs.Lay.{layFault, layAnswer, laidImage, laySaid};
+ghost use Rattle.layout.specs.Told.{layTold};
 
 pub enum LayAnswer {
     Refused(u64),
@@ -36,6 +37,7 @@ fn clear(image: &mut [u64])
 pub fn lay(image: &mut [u64], n: u64, m: u64) -> LayAnswer
     ensures answer { λ r. ⌜ r ≡ layAnswer n m (now (image .entry)) ⌝ }
     ensures image { λ r. ⌜ now (image .exit) ≡ laidImage n m (now (image .entry)) ⌝ }
+    ensures told { λ r. ⌜ layTold r ≡ laySaid n m (now (image .entry)) ⌝ }
 {
     let fault = lay_fault(image.len(), n, m);
     if fault != 0 {

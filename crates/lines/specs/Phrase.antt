@@ -8,7 +8,7 @@ use Rattle.lines.specs.Line.{headOf, resultOf, stepHead}
 use Rattle.lines.specs.Result.{outcomeText}
 use Rattle.codec.specs.declared.step.Step.{Step}
 use Rattle.lines.specs.declared.outcome.Outcome.{Outcome}
-use Rattle.lines.specs.declared.outcome.Outcome.the-variants.{Refused, Taken, Ok, Start, End, Sealed, Empty, Own, Copy, Home}
+use Rattle.lines.specs.declared.outcome.Outcome.the-variants.{Refused, Ok, Start, End, Sealed, Empty, Own, Copy, Home}
 use Rattle.lines.specs.declared.outcome.Outcome.the-variants.{Wait, None, Held, Cleared, Cut, Noted}
 use Rattle.lines.specs.declared.phrase.Phrase.{Phrase}
 
@@ -36,8 +36,7 @@ pub record Calls (step : Step) (p : Phrase) : Type 0 where
 
 -- four words and own, copy or home
 abbrev pub isRead : Outcome → Bool
-isRead (Refused k) = false
-isRead (Taken t) = false
+isRead (Refused k v) = false
 isRead Ok = false
 isRead (Start n) = false
 isRead (End n) = false

@@ -4,15 +4,13 @@ use mathlib.Core.List.{List, [], _∷_, _++_}
 use Rattle.lines.specs.Line.{headOf, resultOf, stepHead}
 use Rattle.codec.specs.declared.step.Step.{Step}
 use Rattle.lines.specs.declared.outcome.Outcome.{Outcome}
-use Rattle.lines.specs.declared.outcome.Outcome.the-variants.{Refused, Taken, Ok, Start, End, Sealed, Empty, Own, Copy, Home, Wait}
-use Rattle.lines.specs.declared.outcome.Outcome.the-variants.{None}
-use Rattle.lines.specs.declared.outcome.Outcome.the-variants.{Held, Cleared, Cut, Noted}
+use Rattle.lines.specs.declared.outcome.Outcome.the-variants.{Refused, Ok, Start, End, Sealed, Empty, Own, Copy, Home, Wait}
+use Rattle.lines.specs.declared.outcome.Outcome.the-variants.{None, Held, Cleared, Cut, Noted}
 
 -- results: ok; start, end or sealed with a number; empty; four words and own, copy or home; wait, held or cleared with a number; none;
--- "no K", K alone for a write that another session stops; "cut" for the step that is cut; step 9 prints no result
+-- "no K", K alone; "cut" for the step that is cut; step 9 prints no result
 unfoldable pub outcomeText : Outcome → List ℕ → List ℕ
-outcomeText (Refused k) ws = resultOf (110 ∷ 111 ∷ []) (k ∷ []) []
-outcomeText (Taken t) ws = resultOf (110 ∷ 111 ∷ []) (7 ∷ []) []
+outcomeText (Refused k v) ws = resultOf (110 ∷ 111 ∷ []) (k ∷ []) []
 outcomeText Ok ws = resultOf (111 ∷ 107 ∷ []) [] []
 outcomeText (Start n) ws = resultOf (115 ∷ 116 ∷ 97 ∷ 114 ∷ 116 ∷ []) (n ∷ []) []
 outcomeText (End n) ws = resultOf (101 ∷ 110 ∷ 100 ∷ []) (n ∷ []) []

@@ -1,8 +1,6 @@
-// The result of a step, of which its line shows the words of a read too, and not the session that holds the record of a write that is
-// taken.
+// The result of a step. Its line shows the words of a read too, and of a refusal the number alone, not the value that goes with it.
 pub enum Outcome {
-    Refused(u64),
-    Taken(u64),
+    Refused(u64, u64),
     Ok,
     Start(u64),
     End(u64),

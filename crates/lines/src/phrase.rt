@@ -58,8 +58,7 @@ pub fn told_of(outcome: Outcome) -> Phrase
     ensures { λ r. ⌜ Tells outcome r ⌝ }
 {
     match outcome {
-        Outcome::Refused(k) => made([b'n', b'o', 0, 0, 0, 0, 0, 0], 2, [k, 0], 1),
-        Outcome::Taken(_) => made([b'n', b'o', 0, 0, 0, 0, 0, 0], 2, [7, 0], 1),
+        Outcome::Refused(k, _) => made([b'n', b'o', 0, 0, 0, 0, 0, 0], 2, [k, 0], 1),
         Outcome::Ok => made([b'o', b'k', 0, 0, 0, 0, 0, 0], 2, [0, 0], 0),
         Outcome::Start(n) => made([b's', b't', b'a', b'r', b't', 0, 0, 0], 5, [n, 0], 1),
         Outcome::End(n) => made([b'e', b'n', b'd', 0, 0, 0, 0, 0], 3, [n, 0], 1),

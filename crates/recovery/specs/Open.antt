@@ -10,6 +10,7 @@ use Rattle.desk.specs.Desk.{idleSession}
 use Rattle.desk.specs.declared.state.Desk.{Desk}
 use Rattle.recovery.specs.declared.opening.OpenAnswer.the-variants.{Refused, Ok}
 use Rattle.recovery.specs.declared.opening.OpenReply.{OpenReply}
+use Rattle.layout.specs.Told.{Told, refusal, ok}
 
 abbrev pub freshDesk : ℕ → ℕ → ℕ → Desk
 freshDesk clock n m = record { clock = clock; n = n; m = m; holders = replicate 256 0; sessions = replicate 16 idleSession }
@@ -25,3 +26,7 @@ opened img = record { answer = Ok; desk = freshDesk 1 (recordsOf img) (sessionsO
 
 unfoldable pub openReply : List ℕ → OpenReply
 openReply img = answered (openFault img) openRefused (opened img)
+
+-- what it tells
+unfoldable pub openSaid : List ℕ → Told
+openSaid img = answered (openFault img) refusal ok

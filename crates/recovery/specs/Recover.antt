@@ -16,6 +16,7 @@ use Rattle.journal.specs.declared.scan.Oldest.{Oldest}
 use Rattle.layout.specs.Checks.{roomFor}
 use Rattle.recovery.specs.declared.recovering.RecoverAnswer.the-variants.{Refused, Unsound, Clean, Replayed}
 use Rattle.recovery.specs.declared.recovering.RecoverReply.{RecoverReply}
+use Rattle.layout.specs.Told.{Told, refused, refusal, clean, replayed}
 
 -- the slots of the image, and the words of the one at place p
 abbrev pub slotsOf : List ℕ → ℕ
@@ -66,3 +67,9 @@ recoverDone img =
 
 unfoldable pub recoverReply : List ℕ → ℕ → RecoverReply
 recoverReply img len = answered (recoverFault img len) (recoverRefused img) (recoverDone img)
+
+-- what it tells: 12 with the lowest such place; clean, or replayed with the number
+unfoldable pub recoverSaid : List ℕ → ℕ → Told
+recoverSaid img len =
+    answered (recoverFault img len) (λ k. cond (eqb k 12) (refused 12 (unsoundPlace img)) (refusal k))
+    (cond (cleanB img) clean (replayed (firstLog img .persist)))

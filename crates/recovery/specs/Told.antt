@@ -1,5 +1,5 @@
--- Document 01's number and value for each answer of open and recover.
-use Rattle.layout.specs.Told.{Told, refusal, result}
+-- What each answer of open and recover tells.
+use Rattle.layout.specs.Told.{Told, refused, refusal, ok, clean, replayed}
 use Rattle.recovery.specs.declared.opening.OpenAnswer.{OpenAnswer}
 use Rattle.recovery.specs.declared.opening.OpenAnswer.the-variants.{Refused as OpenRefused, Ok as Opened}
 use Rattle.recovery.specs.declared.recovering.RecoverAnswer.{RecoverAnswer}
@@ -7,11 +7,11 @@ use Rattle.recovery.specs.declared.recovering.RecoverAnswer.the-variants
 
 abbrev pub openTold : OpenAnswer → Told
 openTold (OpenRefused k) = refusal k
-openTold Opened = result 0
+openTold Opened = ok
 
--- 12 with the lowest such place, replayed with the persist number
+-- 12 with the lowest such place
 abbrev pub recoverTold : RecoverAnswer → Told
 recoverTold (RecoverRefused k) = refusal k
-recoverTold (Unsound p) = record { number = 12; value = p }
-recoverTold Clean = result 0
-recoverTold (Replayed p) = result p
+recoverTold (Unsound p) = refused 12 p
+recoverTold Clean = clean
+recoverTold (Replayed p) = replayed p

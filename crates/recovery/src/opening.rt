@@ -1,6 +1,7 @@
 // Opening an image: it gives a fresh desk.
 ghost use mathlib.Core.Path.{_≡_};
-ghost use Rattle.recovery.specs.Open.{openFault, openReply, freshDesk};
+ghost use Rattle.recovery.specs.Open.{openFault, openReply, openSaid, freshDesk};
+ghost use Rattle.recovery.specs.Told.{openTold};
 use desk::Desk;
 use desk::idle_session;
 
@@ -44,7 +45,8 @@ fn open_fault(image: &[u64]) -> u64
 
 // Opens an image with all slots empty: a desk with clock 1, all idle.
 pub fn open(image: &[u64]) -> OpenReply
-    ensures { λ r. ⌜ r ≡ openReply (now (image .entry)) ⌝ }
+    ensures reply { λ r. ⌜ r ≡ openReply (now (image .entry)) ⌝ }
+    ensures told { λ r. ⌜ openTold (r .answer) ≡ openSaid (now (image .entry)) ⌝ }
 {
     let fault = open_fault(image);
     if fault != 0 {

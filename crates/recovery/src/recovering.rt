@@ -5,7 +5,9 @@ ghost use Prim.Native.Nat.{_≤_};
 ghost use lib.ListN.{length};
 ghost use Rattle.layout.specs.Entries.{made, listed};
 ghost use Rattle.layout.specs.Image.{shapedB};
-ghost use Rattle.recovery.specs.Recover.{unsoundPlace, tiedBelow, tiesB, recoverFault, recoverRefused, recoverEntries, recoverReply};
+ghost use Rattle.recovery.specs.Recover.{unsoundPlace, tiedBelow, tiesB, recoverFault, recoverRefused};
+ghost use Rattle.recovery.specs.Recover.{recoverEntries, recoverReply, recoverSaid};
+ghost use Rattle.recovery.specs.Told.{recoverTold};
 
 pub enum RecoverAnswer {
     Refused(u64),
@@ -107,6 +109,7 @@ pub fn recover(image: &mut [u64], trace: &mut [u64]) -> RecoverReply
         ≡ made (recoverEntries (now (image .entry)) (length (now (trace .entry)))) (now (image .entry)) ⌝ }
     ensures trace { λ r. ⌜ now (trace .exit)
         ≡ listed (recoverEntries (now (image .entry)) (length (now (trace .entry)))) (now (trace .entry)) ⌝ }
+    ensures told { λ r. ⌜ recoverTold (r .answer) ≡ recoverSaid (now (image .entry)) (length (now (trace .entry))) ⌝ }
 {
     let fault = recover_fault(image, trace.len());
     if fault != 0 {

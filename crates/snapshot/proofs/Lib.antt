@@ -1,3 +1,4 @@
 pub mod OwnPlace
 pub mod ReadLaws
 pub mod WriteLaws
+pub mod ToldLaws

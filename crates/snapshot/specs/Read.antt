@@ -16,6 +16,7 @@ use Rattle.snapshot.specs.Own.{ownPlace, zeroWords}
 use Rattle.snapshot.specs.declared.reading.ReadAnswer.{ReadAnswer}
 use Rattle.snapshot.specs.declared.reading.ReadAnswer.the-variants.{Refused, Own, Copy, Home}
 use Rattle.snapshot.specs.declared.reading.ReadReply.{ReadReply}
+use Rattle.layout.specs.Told.{Told, refusal, own, copied, home}
 
 unfoldable pub readFault : List ℕ → Desk → ℕ → ℕ → ℕ
 readFault img d s r = first (imageFault img d true s) (first (unless (ltb r (d .n)) 5) (unless (isActive (sessionAt d s .phase)) 6))
@@ -58,3 +59,13 @@ readDone img d s r =
 
 unfoldable pub readReply : List ℕ → Desk → ℕ → ℕ → ReadReply
 readReply img d s r = answered (readFault img d s r) (readRefused d) (readDone img d s r)
+
+-- what it tells: the words, and whose they are
+unfoldable pub readSaid : List ℕ → Desk → ℕ → ℕ → Told
+readSaid img d s r =
+    answered (readFault img d s r) refusal
+    (cond (ltb (ownPlace (sessionAt d s) r) 4)
+    (own (copyAt (sessionAt d s) (ownPlace (sessionAt d s) r) .words))
+    (cond (copyShown d (startOf (sessionAt d s .phase)) r)
+    (copied (copyAt (holderEntry d r) (ownPlace (holderEntry d r) r) .words))
+    (home (homeWords img r))))

@@ -1,19 +1,21 @@
--- Document 01's number and value for each answer of read and write.
-use Rattle.layout.specs.Told.{Told, refusal, result}
+-- What each answer of read and write tells.
+use Prim.Native.Nat.{ℕ}
+use mathlib.Core.List.{List}
+use Rattle.layout.specs.Told.{Told, refused, refusal, ok, own, copied, home}
 use Rattle.snapshot.specs.declared.reading.ReadAnswer.{ReadAnswer}
 use Rattle.snapshot.specs.declared.reading.ReadAnswer.the-variants.{Refused as ReadRefused, Own, Copy, Home}
 use Rattle.snapshot.specs.declared.writing.WriteAnswer.{WriteAnswer}
 use Rattle.snapshot.specs.declared.writing.WriteAnswer.the-variants.{Refused as WriteRefused, Taken, Ok as Written}
 
 -- the four words stand beside the answer
-abbrev pub readTold : ReadAnswer → Told
-readTold (ReadRefused k) = refusal k
-readTold Own = result 0
-readTold Copy = result 0
-readTold Home = result 0
+abbrev pub readTold : ReadAnswer → List ℕ → Told
+readTold (ReadRefused k) ws = refusal k
+readTold Own ws = own ws
+readTold Copy ws = copied ws
+readTold Home ws = home ws
 
 -- 7 with the holder
 abbrev pub writeTold : WriteAnswer → Told
 writeTold (WriteRefused k) = refusal k
-writeTold (Taken t) = record { number = 7; value = t }
-writeTold Written = result 0
+writeTold (Taken t) = refused 7 t
+writeTold Written = ok

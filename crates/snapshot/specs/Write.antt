@@ -17,6 +17,7 @@ use Rattle.snapshot.specs.Own.{ownPlace}
 use Rattle.snapshot.specs.declared.writing.WriteAnswer.{WriteAnswer}
 use Rattle.snapshot.specs.declared.writing.WriteAnswer.the-variants.{Refused, Taken, Ok}
 use Rattle.snapshot.specs.declared.writing.WriteReply.{WriteReply}
+use Rattle.layout.specs.Told.{Told, refused, refusal, ok}
 
 -- the session's slot q is empty; and the lowest of its two that is, 2 where both are occupied
 abbrev pub slotEmpty : List ℕ → ℕ → ℕ → ℕ → Bool
@@ -77,3 +78,7 @@ writeDone img d s r ws = writeSays (cond (ownsB d s r) (putSession d s (overwrit
 
 unfoldable pub writeReply : List ℕ → Desk → ℕ → ℕ → List ℕ → WriteReply
 writeReply img d s r ws = answered (writeFault img d s r) (writeRefused d s r) (writeDone img d s r ws)
+
+-- what it tells: 7 with the holder
+unfoldable pub writeSaid : List ℕ → Desk → ℕ → ℕ → Told
+writeSaid img d s r = answered (writeFault img d s r) (λ k. cond (eqb k 7) (refused 7 (markAt d r - 1)) (refusal k)) ok

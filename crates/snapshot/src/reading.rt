@@ -1,7 +1,8 @@
 // Read: whether the words are the caller's own copy, a published copy or the home record, and the words.
 ghost use mathlib.Core.Path.{_≡_};
 ghost use Prim.Native.Nat.{_-_};
-ghost use Rattle.snapshot.specs.Read.{startOf, shownAt, readGives, readReply};
+ghost use Rattle.snapshot.specs.Read.{startOf, shownAt, readGives, readReply, readSaid};
+ghost use Rattle.snapshot.specs.Told.{readTold};
 use crate::copies::own_place;
 use desk::Desk;
 use desk::Phase;
@@ -65,7 +66,8 @@ fn gives(desk: Desk, answer: ReadAnswer, words: [u64; 4]) -> ReadReply
 
 // Reads a record in the session's snapshot.
 pub fn read(image: &[u64], desk: Desk, session: u64, rec: u64) -> ReadReply
-    ensures { λ r. ⌜ r ≡ readReply (now (image .entry)) desk session rec ⌝ }
+    ensures reply { λ r. ⌜ r ≡ readReply (now (image .entry)) desk session rec ⌝ }
+    ensures told { λ r. ⌜ readTold (r .answer) (r .words) ≡ readSaid (now (image .entry)) desk session rec ⌝ }
 {
     let sound = coherent(desk);
     let n = desk.n;

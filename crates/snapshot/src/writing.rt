@@ -1,7 +1,8 @@
 // Write: a copy of a record; where another session holds the record (refusal 7), which one.
 ghost use mathlib.Core.Path.{_≡_};
 ghost use Prim.Native.Nat.{_≤_, _<_};
-ghost use Rattle.snapshot.specs.Write.{emptySlot, copyFault, reserved, overwritten, extended, writeSays, writeReply};
+ghost use Rattle.snapshot.specs.Write.{emptySlot, copyFault, reserved, overwritten, extended, writeSays, writeReply, writeSaid};
+ghost use Rattle.snapshot.specs.Told.{writeTold};
 ghost use Rattle.snapshot.specs.Own.{ownPlace};
 use crate::copies::own_place;
 use desk::Desk;
@@ -96,7 +97,8 @@ fn answers(desk: Desk, answer: WriteAnswer) -> WriteReply
 
 // Writes four words to the session's copy of a record.
 pub fn write(image: &[u64], mut desk: Desk, session: u64, rec: u64, words: [u64; 4]) -> WriteReply
-    ensures { λ r. ⌜ r ≡ writeReply (now (image .entry)) desk session rec words ⌝ }
+    ensures reply { λ r. ⌜ r ≡ writeReply (now (image .entry)) desk session rec words ⌝ }
+    ensures told { λ r. ⌜ writeTold (r .answer) ≡ writeSaid (now (image .entry)) desk session rec ⌝ }
 {
     let sound = coherent(desk);
     let n = desk.n;

@@ -47,7 +47,7 @@ whole-case = refl
 -- results that the whole case does not show, and the lines that print no step
 other-lines : _≡_ {A = List (List ℕ)}
     (stepLine 1 (Lay 256 16) Ok noWords
-    ∷ stepLine 2 (Write 3 255) (Refused 5) noWords
+    ∷ stepLine 2 (Write 3 255) (Refused 5 0) noWords
     ∷ stepLine 3 (Abandon 1) Ok noWords
     ∷ stepLine 4 (Read 1 0) Copy (18446744073709551615 ∷ 0 ∷ 10 ∷ 7 ∷ [])
     ∷ stepLine 5 (Reclaim 2) None noWords

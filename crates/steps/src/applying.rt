@@ -1,12 +1,16 @@
 // A step applied to an opened store: the session call that it names.
 ghost use mathlib.Core.Path.{_≡_};
+ghost use Prim.Native.Nat.{ℕ};
+ghost use mathlib.Core.List.{List};
 ghost use lib.ListN.{length};
 ghost use Rattle.layout.specs.Entries.{made, listed};
 ghost use Rattle.commit.specs.Finish.{finishEntries};
 ghost use Rattle.commit.specs.Settle.{settleEntries};
 ghost use Rattle.commit.specs.Reclaim.{reclaimEntries};
-ghost use Rattle.steps.specs.Apply.{beginOutcome, readOutcome, writeOutcome, finishOutcome, publishOutcome, settleOutcome};
-ghost use Rattle.steps.specs.Apply.{reclaimOutcome, abandonOutcome, givesOf};
+ghost use Rattle.desk.specs.Told.{beginTold, abandonTold, publishTold};
+ghost use Rattle.snapshot.specs.Told.{readTold, writeTold};
+ghost use Rattle.commit.specs.Told.{finishTold, settleTold, reclaimTold};
+ghost use Rattle.steps.specs.Apply.{outcomeOf, givesOf};
 ghost use Rattle.steps.specs.Apply.{beginApplied, readApplied, writeApplied, finishApplied, publishApplied, settleApplied};
 ghost use Rattle.steps.specs.Apply.{reclaimApplied, abandonApplied};
 ghost use Rattle.steps.specs.Apply.{appliedOf, appliedEntries};
@@ -31,19 +35,20 @@ pub struct Applied {
 }
 
 fn begin_outcome(a: BeginAnswer) -> Outcome
-    ensures { λ r. ⌜ r ≡ beginOutcome a ⌝ }
+    ensures { λ r. ⌜ r ≡ outcomeOf (beginTold a) ⌝ }
 {
     match a {
-        BeginAnswer::Refused(k) => Outcome::Refused(k),
+        BeginAnswer::Refused(k) => Outcome::Refused(k, 0),
         BeginAnswer::Start(b) => Outcome::Start(b),
     }
 }
 
+// The words of a read stand beside its outcome.
 fn read_outcome(a: ReadAnswer) -> Outcome
-    ensures { λ r. ⌜ r ≡ readOutcome a ⌝ }
+    ensures { λ r. ⌜ ((ws : List ℕ) → r ≡ outcomeOf (readTold a ws)) ⌝ }
 {
     match a {
-        ReadAnswer::Refused(k) => Outcome::Refused(k),
+        ReadAnswer::Refused(k) => Outcome::Refused(k, 0),
         ReadAnswer::Own => Outcome::Own,
         ReadAnswer::Copy => Outcome::Copy,
         ReadAnswer::Home => Outcome::Home,
@@ -51,49 +56,49 @@ fn read_outcome(a: ReadAnswer) -> Outcome
 }
 
 fn write_outcome(a: WriteAnswer) -> Outcome
-    ensures { λ r. ⌜ r ≡ writeOutcome a ⌝ }
+    ensures { λ r. ⌜ r ≡ outcomeOf (writeTold a) ⌝ }
 {
     match a {
-        WriteAnswer::Refused(k) => Outcome::Refused(k),
-        WriteAnswer::Taken(t) => Outcome::Taken(t),
+        WriteAnswer::Refused(k) => Outcome::Refused(k, 0),
+        WriteAnswer::Taken(t) => Outcome::Refused(7, t),
         WriteAnswer::Ok => Outcome::Ok,
     }
 }
 
 fn finish_outcome(a: FinishAnswer) -> Outcome
-    ensures { λ r. ⌜ r ≡ finishOutcome a ⌝ }
+    ensures { λ r. ⌜ r ≡ outcomeOf (finishTold a) ⌝ }
 {
     match a {
-        FinishAnswer::Refused(k) => Outcome::Refused(k),
+        FinishAnswer::Refused(k) => Outcome::Refused(k, 0),
         FinishAnswer::Empty => Outcome::Empty,
         FinishAnswer::Sealed(p) => Outcome::Sealed(p),
     }
 }
 
 fn publish_outcome(a: PublishAnswer) -> Outcome
-    ensures { λ r. ⌜ r ≡ publishOutcome a ⌝ }
+    ensures { λ r. ⌜ r ≡ outcomeOf (publishTold a) ⌝ }
 {
     match a {
-        PublishAnswer::Refused(k) => Outcome::Refused(k),
+        PublishAnswer::Refused(k) => Outcome::Refused(k, 0),
         PublishAnswer::End(e) => Outcome::End(e),
     }
 }
 
 fn settle_outcome(a: SettleAnswer) -> Outcome
-    ensures { λ r. ⌜ r ≡ settleOutcome a ⌝ }
+    ensures { λ r. ⌜ r ≡ outcomeOf (settleTold a) ⌝ }
 {
     match a {
-        SettleAnswer::Refused(k) => Outcome::Refused(k),
+        SettleAnswer::Refused(k) => Outcome::Refused(k, 0),
         SettleAnswer::Wait(t) => Outcome::Wait(t),
         SettleAnswer::Ok => Outcome::Ok,
     }
 }
 
 fn reclaim_outcome(a: ReclaimAnswer) -> Outcome
-    ensures { λ r. ⌜ r ≡ reclaimOutcome a ⌝ }
+    ensures { λ r. ⌜ r ≡ outcomeOf (reclaimTold a) ⌝ }
 {
     match a {
-        ReclaimAnswer::Refused(k) => Outcome::Refused(k),
+        ReclaimAnswer::Refused(k) => Outcome::Refused(k, 0),
         ReclaimAnswer::None => Outcome::None,
         ReclaimAnswer::Held(p) => Outcome::Held(p),
         ReclaimAnswer::Cleared(p) => Outcome::Cleared(p),
@@ -101,10 +106,10 @@ fn reclaim_outcome(a: ReclaimAnswer) -> Outcome
 }
 
 fn abandon_outcome(a: AbandonAnswer) -> Outcome
-    ensures { λ r. ⌜ r ≡ abandonOutcome a ⌝ }
+    ensures { λ r. ⌜ r ≡ outcomeOf (abandonTold a) ⌝ }
 {
     match a {
-        AbandonAnswer::Refused(k) => Outcome::Refused(k),
+        AbandonAnswer::Refused(k) => Outcome::Refused(k, 0),
         AbandonAnswer::Ok => Outcome::Ok,
     }
 }

@@ -18,7 +18,7 @@ use Rattle.lines.specs.Result.{replayedLine, openLine}
 use Rattle.codec.specs.declared.step.Step.{Step}
 use Rattle.codec.specs.declared.step.Step.the-variants.{Lay, Begin, Read, Write, Finish, Publish, Settle, Reclaim, Abandon, Cut}
 use Rattle.lines.specs.declared.outcome.Outcome.{Outcome}
-use Rattle.lines.specs.declared.outcome.Outcome.the-variants.{Refused, Ok, Cut as WasCut}
+use Rattle.lines.specs.declared.outcome.Outcome.the-variants.{Cut as WasCut}
 use Rattle.turns.specs.State.{putOf, stoppedOf, sizedOf, cutAt, lostOf, cleanOf}
 use Rattle.turns.specs.declared.state.State.{State}
 
@@ -109,11 +109,6 @@ layPart memory n m = take (imageSize (length memory) n m) memory
 -- the answer of lay on that part
 abbrev pub laying : List ℕ → ℕ → ℕ → LayAnswer
 laying memory n m = layAnswer n m (layPart memory n m)
-
--- and the result that the line of step 0 shows
-abbrev pub layOutcome : LayAnswer → Outcome
-layOutcome (LayRefused k) = Refused k
-layOutcome Laid = Ok
 
 -- refused, it prints its line and stops; accepted, the image has that size and is to be opened
 abbrev pub laidOf : State → ℕ → LayAnswer → ℕ → State

@@ -3,8 +3,9 @@ ghost use mathlib.Core.Path.{_≡_};
 ghost use Prim.Native.Nat.{_+_, _≤_};
 ghost use lib.ListN.{length, take};
 ghost use Rattle.layout.specs.Entries.{made, listed};
+ghost use Rattle.layout.specs.Told.{layTold};
 ghost use Rattle.recovery.specs.Recover.{recoverReply, recoverEntries};
-ghost use Rattle.steps.specs.Apply.{appliedOf, appliedEntries};
+ghost use Rattle.steps.specs.Apply.{outcomeOf, appliedOf, appliedEntries};
 ghost use Rattle.steps.specs.Cut.{overlaid};
 ghost use Rattle.lines.specs.Result.{stepLine, badLine, replayedLine, openLine};
 ghost use Rattle.codec.specs.Steps.{noWords};
@@ -12,7 +13,7 @@ ghost use Rattle.codec.specs.declared.step.Step.the-variants.{Lay};
 ghost use Rattle.turns.specs.Bounds.{Ready, Follows};
 ghost use Rattle.turns.specs.Make.{imageSize, storesB, isCutB, arrivesOf, keptOf, shownOf, notedOf, toldOf, badOf, replayedOf};
 ghost use Rattle.turns.specs.Make.{recoveredOf};
-ghost use Rattle.turns.specs.Make.{resumedLine, resumedOf, laying, layOutcome, laidOf, memoryOf, PutsLine};
+ghost use Rattle.turns.specs.Make.{resumedLine, resumedOf, laying, laidOf, memoryOf, PutsLine};
 use crate::state::State;
 use codec::Step;
 use lines::Outcome;
@@ -54,7 +55,7 @@ pub fn lay_out(image: &mut [u64], output: &mut [u8], mut s: State, n: u64, m: u6
     requires { ⌜ Ready s (length (now output)) (length (now image)) ⌝ }
     ensures { λ r. ⌜ Follows s r (length (now (output .entry))) (length (now (image .entry))) ⌝ }
     ensures { λ r.
-        ⌜ PutsLine (stepLine (s .number) (Lay n m) (layOutcome (laying (now (image .entry)) n m)) noWords) s
+        ⌜ PutsLine (stepLine (s .number) (Lay n m) (outcomeOf (layTold (laying (now (image .entry)) n m))) noWords) s
         (laidOf s (imageSize (length (now (image .entry))) n m) (laying (now (image .entry)) n m)) (now (output .entry))
         (now (output .exit)) r ⌝ }
     ensures { λ r. ⌜ now (image .exit) ≡ memoryOf (now (image .entry)) n m ⌝ }
@@ -66,7 +67,7 @@ pub fn lay_out(image: &mut [u64], output: &mut [u8], mut s: State, n: u64, m: u6
     let answer = store::lay(&mut image[..size], n, m);
     match answer {
         LayAnswer::Refused(k) => {
-            s.put = lines::put_line(output, put, number, step, Outcome::Refused(k), [0; 4]);
+            s.put = lines::put_line(output, put, number, step, Outcome::Refused(k, 0), [0; 4]);
             s.stopped = true;
             s
         }

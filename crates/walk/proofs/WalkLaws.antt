@@ -5,15 +5,16 @@ use mathlib.Core.List.{List, _++_}
 use mathlib.Core.Path.{_≡_, refl, ap, _∙_}
 use lib.ListN.{length, drop}
 use Rattle.layout.specs.Entries.{made}
+use Rattle.layout.specs.Told.{layTold}
 use Rattle.desk.specs.declared.state.Desk.{Desk}
 use Rattle.codec.specs.declared.step.Step.{Step}
 use Rattle.lines.specs.Result.{stepLine, badLine}
-use Rattle.steps.specs.Apply.{appliedOf, appliedEntries}
+use Rattle.steps.specs.Apply.{outcomeOf, appliedOf, appliedEntries}
 use Rattle.steps.specs.declared.applying.Applied.{Applied}
 use Rattle.recovery.specs.Recover.{recoverReply, recoverEntries}
 use Rattle.codec.specs.Steps.{noWords}
 use Rattle.codec.specs.declared.step.Step.the-variants.{Lay}
-use Rattle.turns.specs.Make.{imageSize, arrivesOf, isCutB, shownOf, toldOf, badOf, resumedLine, resumedOf, laying, layOutcome, laidOf, memoryOf, PutsLine}
+use Rattle.turns.specs.Make.{imageSize, arrivesOf, isCutB, shownOf, toldOf, badOf, resumedLine, resumedOf, laying, laidOf, memoryOf, PutsLine}
 use Rattle.walk.specs.Walk.{Heard, Work, imageOf, withImage, printed, recovering, layingOut, called}
 use Rattle.turns.specs.declared.state.State.{State}
 
@@ -40,7 +41,7 @@ recovered-by len w p i = rw i (printed-by (withImage w (made (recoverEntries (im
 
 -- the memory that was laid, and the line of step 0
 pub laid-out-by : (n m : ℕ) (w : Work) {memory out : List ℕ} {r : State}
-    → PutsLine (stepLine (w .state .number) (Lay n m) (layOutcome (laying (w .memory) n m)) noWords) (w .state) (laidOf (w .state) (imageSize (length (w .memory)) n m) (laying (w .memory) n m)) (w .output) out r
+    → PutsLine (stepLine (w .state .number) (Lay n m) (outcomeOf (layTold (laying (w .memory) n m))) noWords) (w .state) (laidOf (w .state) (imageSize (length (w .memory)) n m) (laying (w .memory) n m)) (w .output) out r
     → memory ≡ memoryOf (w .memory) n m → record { memory = memory; output = out; state = r } ≡ layingOut n m w
 laid-out-by n m w p i = rw i (printed-by (record { memory = memoryOf (w .memory) n m; output = w .output; state = w .state }) _ (laidOf (w .state) (imageSize (length (w .memory)) n m) (laying (w .memory) n m)) p)
 

@@ -8,6 +8,7 @@ use mathlib.Core.Logic.{_⊎_}
 use lib.ListN.{length, take, drop}
 use lib.Dec.{ltb}
 use Rattle.layout.specs.Entries.{made}
+use Rattle.layout.specs.Told.{layTold}
 use Rattle.recovery.specs.Open.{openReply}
 use Rattle.recovery.specs.Recover.{recoverReply, recoverEntries}
 use Rattle.desk.specs.declared.state.Desk.{Desk}
@@ -17,10 +18,10 @@ use Rattle.codec.specs.declared.step.Step.{Step}
 use Rattle.codec.specs.declared.step.Step.the-variants.{Lay as LayStep}
 use Rattle.lines.specs.Put.{put}
 use Rattle.lines.specs.Result.{stepLine, badLine}
-use Rattle.steps.specs.Apply.{appliedOf, appliedEntries}
+use Rattle.steps.specs.Apply.{outcomeOf, appliedOf, appliedEntries}
 use Rattle.steps.specs.declared.applying.Applied.{Applied}
 use Rattle.turns.specs.State.{writtenOf, filledOf, stoppedOf, openedOf}
-use Rattle.turns.specs.Make.{imageSize, arrivesOf, isCutB, shownOf, toldOf, badOf, resumedLine, resumedOf, laying, layOutcome, laidOf}
+use Rattle.turns.specs.Make.{imageSize, arrivesOf, isCutB, shownOf, toldOf, badOf, resumedLine, resumedOf, laying, laidOf}
 use Rattle.turns.specs.Make.{memoryOf}
 use Rattle.walk.specs.Turn.{turnOf}
 use Rattle.turns.specs.declared.state.State.{State}
@@ -68,7 +69,7 @@ recovering len w =
 abbrev pub layingOut : ℕ → ℕ → Work → Work
 layingOut n m w =
     printed (record { memory = memoryOf (w .memory) n m; output = w .output; state = w .state })
-    (stepLine (w .state .number) (LayStep n m) (layOutcome (laying (w .memory) n m)) noWords)
+    (stepLine (w .state .number) (LayStep n m) (outcomeOf (layTold (laying (w .memory) n m))) noWords)
     (laidOf (w .state) (imageSize (length (w .memory)) n m) (laying (w .memory) n m))
 
 -- a turn that leaves the desk as it is; the others do nothing here

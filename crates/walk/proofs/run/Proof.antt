@@ -81,7 +81,7 @@ same-length-5 c = search needs
 returns : tie.Need-returns Inv-loop μ-loop
 returns c =
     let i = (c .before .before .before .before) .loop .inv in
-    (_, rw ((c .before .before .before .before .before .before .before .before) .start .ensures .1, (c .before .before .before .before .before .before) .«open» .ensures) at (went-whole ((c .before .before) .if1 .left) (i .7)), refl, refl, refl)
+    (_, rw ((c .before .before .before .before .before .before .before .before) .start .ensures .1, (c .before .before .before .before .before .before) .«open» .ensures .0) at (went-whole ((c .before .before) .if1 .left) (i .7)), refl, refl, refl)
 
 pub run-spec : {M : Type 1} → statement M
 run-spec =

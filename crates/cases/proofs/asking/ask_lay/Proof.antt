@@ -15,7 +15,7 @@ same-length : tie.Need-same-length
 same-length c = search needs
 
 returns : tie.Need-returns
-returns c = (rw (c .gives .ensures, (c .before) .lay-told .ensures, (c .before .before .before .before) .lay .ensures .0), (c .before .before .before .before) .lay .ensures .1)
+returns c = (rw (c .gives .ensures, (c .before) .lay-told .ensures, (c .before .before .before .before) .lay .ensures .0), (c .before .before .before .before) .lay .ensures .1 .0)
 
 pub ask-lay-spec : {M : Type 1} → statement M
 ask-lay-spec =

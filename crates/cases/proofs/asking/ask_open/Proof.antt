@@ -12,7 +12,7 @@ gives-requires : tie.Need-gives-requires
 gives-requires c κs = search needs
 
 returns : tie.Need-returns
-returns c = rw (c .gives .ensures, (c .before) .open-told .ensures, (c .before .before .before) .«open» .ensures)
+returns c = rw (c .gives .ensures, (c .before) .open-told .ensures, (c .before .before .before) .«open» .ensures .0)
 
 pub ask-open-spec : {M : Type 1} → statement M
 ask-open-spec = tie.close (tie.spec open-requires open-told-requires gives-requires returns)

@@ -18,7 +18,9 @@ same-length-2 : tie.Need-same-length-2
 same-length-2 c = search needs
 
 returns : tie.Need-returns
-returns c = (rw (c .gives .ensures, (c .before) .recover-told .ensures, (c .before .before .before .before .before .before) .recover .ensures .0), (c .before .before .before .before .before .before) .recover .ensures .1)
+returns c =
+    let w = (c .before .before .before .before .before .before) .recover .ensures in
+    (rw (c .gives .ensures, (c .before) .recover-told .ensures, w .0), (w .1 .0, w .1 .1 .0))
 
 pub ask-recover-spec : {M : Type 1} → statement M
 ask-recover-spec =

@@ -1,4 +1,6 @@
+use lib.ListN.{length}
 use borrow.Author.Needs.{needs}
+use Rattle.cases.proofs.CodedLaws.{step-coded}
 use Rattle.cases.proofs.asking.ask_step.Statement.{statement}
 use Rattle.cases.proofs.asking.ask_step.Tie as tie
 
@@ -18,7 +20,10 @@ same-length-2 : tie.Need-same-length-2
 same-length-2 c = search needs
 
 returns : tie.Need-returns
-returns c = (rw (c .gives .ensures, (c .before) .outcome-told .ensures, (c .before .before .before .before .before .before .before .before) .apply .ensures .0), (c .before .before .before .before .before .before .before .before) .apply .ensures .1)
+returns c =
+    let a = (c .before .before .before .before .before .before .before .before .before .before .before .before .before) .args in
+    let w = (c .before .before .before .before .before .before .before .before) .apply .ensures in
+    (rw (c .gives .ensures, (c .before) .outcome-told .ensures, w .0, step-coded (a .image .now) (a .desk) (length (a .trace .now)) (a .step) (a .words)), w .1)
 
 pub ask-step-spec : {M : Type 1} → statement M
 ask-step-spec =

@@ -9,6 +9,7 @@ use Rattle.layout.specs.Checks.{roomFor}
 use Rattle.desk.proofs.Entered.{Entered, entered}
 use Rattle.layout.proofs.Stored.{stored-none, stored-run}
 use Rattle.commit.proofs.ReclaimLaws.{own-slot, reclaim-refused, reclaim-none, reclaim-held, reclaim-clears}
+use Rattle.commit.proofs.ToldLaws.{reclaim-tells}
 use borrow.Author.Needs.{needs}
 use Rattle.commit.proofs.reclaiming.reclaim.Statement.{statement}
 use Rattle.commit.proofs.reclaiming.reclaim.Tie as tie
@@ -45,7 +46,7 @@ returns : tie.Need-returns
 returns c =
     let a = (c .before .before .before .before .before .before .before) .args in
     let g = reclaim-refused (a .image .now) (a .t2) (length (a .trace .now)) (a .session) ((c .before .before) .entry-fault .result) (rw ((c .before .before .before .before) .coherent .ensures) at ((c .before .before) .entry-fault .ensures)) ((c .before) .if1 .taken) in
-    (c .answers .ensures ∙ sym (g .replies), stored-none _ _ _ (g .lists))
+    reclaim-tells _ _ _ _ (c .answers .ensures ∙ sym (g .replies), stored-none _ _ _ (g .lists))
 
 mul-e : tie.Need-mul-e
 mul-e c = omega (arith, facts c .small)
@@ -66,7 +67,7 @@ returns-2 : tie.Need-returns-2
 returns-2 c =
     let a = (c .before .before .before .before .before .before .before .before .before .before .before .before) .args in
     let g = reclaim-none (a .image .now) (a .t2) (length (a .trace .now)) (a .session) (passed (c .before .before .before .before .before .before)) ((c .before .before .before) .older-slot .result) ((c .before .before .before) .older-slot .ensures) ((c .before) .if2 .taken) in
-    (c .answers2 .ensures ∙ sym (g .replies), stored-none _ _ _ (g .lists))
+    reclaim-tells _ _ _ _ (c .answers2 .ensures ∙ sym (g .replies), stored-none _ _ _ (g .lists))
 
 mul-oldest-log : tie.Need-mul-oldest-log
 mul-oldest-log c = omega (arith, facts (c .before .before .before .before .before .before) .coherent .m-high)
@@ -84,7 +85,7 @@ returns-3 : tie.Need-returns-3
 returns-3 c =
     let a = (c .before .before .before .before .before .before .before .before .before .before .before .before .before .before .before .before .before) .args in
     let g = reclaim-held (a .image .now) (a .t2) (length (a .trace .now)) (a .session) (passed (c .before .before .before .before .before .before .before .before .before .before .before)) ((c .before .before .before .before .before .before .before .before) .older-slot .result) ((c .before .before .before .before .before .before .before .before) .older-slot .ensures) ((c .before .before .before .before .before .before) .if2 .left) ((c .before .before .before .before) .oldest-log .result) ((c .before .before .before .before) .oldest-log .ensures) ((c .before) .if3 .taken) in
-    (c .answers3 .ensures ∙ sym (g .replies), stored-none _ _ _ (g .lists))
+    reclaim-tells _ _ _ _ (c .answers3 .ensures ∙ sym (g .replies), stored-none _ _ _ (g .lists))
 
 mul-slot-at : tie.Need-mul-slot-at
 mul-slot-at c = omega (arith, facts (c .before .before .before .before .before .before .before .before .before .before) .small)
@@ -113,7 +114,7 @@ same-length-5 c = search needs
 returns-4 : tie.Need-returns-4
 returns-4 c =
     let a = (c .before .before .before .before .before .before .before .before .before .before .before .before .before .before .before .before .before .before .before .before .before .before .before .before .before .before .before .before .before .before) .args in
-    let g = reclaim-clears (a .image .now) (a .t2) (length (a .trace .now)) (a .session) (passed (c .before .before .before .before .before .before .before .before .before .before .before .before .before .before .before .before .before .before .before .before .before .before .before .before)) ((c .before .before .before .before .before .before .before .before .before .before .before .before .before .before .before .before .before .before .before .before .before) .older-slot .result) ((c .before .before .before .before .before .before .before .before .before .before .before .before .before .before .before .before .before .before .before .before .before) .older-slot .ensures) ((c .before .before .before .before .before .before .before .before .before .before .before .before .before .before .before .before .before .before .before) .if2 .left) ((c .before .before .before .before .before .before .before .before .before .before .before .before .before .before .before .before .before) .oldest-log .result) ((c .before .before .before .before .before .before .before .before .before .before .before .before .before .before .before .before .before) .oldest-log .ensures) ((c .before .before .before .before .before .before .before .before .before .before .before .before .before .before) .if3 .left) in (
+    let g = reclaim-clears (a .image .now) (a .t2) (length (a .trace .now)) (a .session) (passed (c .before .before .before .before .before .before .before .before .before .before .before .before .before .before .before .before .before .before .before .before .before .before .before .before)) ((c .before .before .before .before .before .before .before .before .before .before .before .before .before .before .before .before .before .before .before .before .before) .older-slot .result) ((c .before .before .before .before .before .before .before .before .before .before .before .before .before .before .before .before .before .before .before .before .before) .older-slot .ensures) ((c .before .before .before .before .before .before .before .before .before .before .before .before .before .before .before .before .before .before .before) .if2 .left) ((c .before .before .before .before .before .before .before .before .before .before .before .before .before .before .before .before .before) .oldest-log .result) ((c .before .before .before .before .before .before .before .before .before .before .before .before .before .before .before .before .before) .oldest-log .ensures) ((c .before .before .before .before .before .before .before .before .before .before .before .before .before .before) .if3 .left) in reclaim-tells _ _ _ _ (
       c .answers4 .ensures ∙ sym (g .replies),
       stored-run _ (g .lists) (rw ((c .before .before .before .before .before .before .before .before .before .before .before .before) .slot-at .ensures) at (and-then ((c .before .before .before .before .before .before .before .before .before) .put-store .ensures) (fenced ((c .before .before .before) .put-fence .ensures)))) (omega (arith, room (c .before .before .before .before .before .before .before .before .before .before .before .before .before .before .before .before .before .before .before .before .before .before .before .before))),
     )

@@ -1,4 +1,5 @@
 use Rattle.desk.specs.Desk.{sessionAt}
+use Rattle.commit.proofs.ToldLaws.{settle-tells}
 use borrow.Author.Needs.{needs}
 use mathlib.Core.Path.{_≡_, refl, sym, _∙_}
 use lib.ListN.{length}
@@ -55,7 +56,7 @@ returns : tie.Need-returns Inv-loop μ-loop
 returns c =
     let a = (c .before .before .before .before .before .before .before) .args in
     let g = settle-refused (a .image .now) (a .t2) (length (a .trace .now)) (a .session) ((c .before .before) .entry-fault .result) (rw ((c .before .before .before .before) .coherent .ensures) at ((c .before .before) .entry-fault .ensures)) ((c .before) .if1 .taken) in
-    (c .answers .ensures ∙ sym (g .replies), stored-none _ _ _ (g .lists))
+    settle-tells _ _ _ _ (c .answers .ensures ∙ sym (g .replies), stored-none _ _ _ (g .lists))
 
 mul-e : tie.Need-mul-e Inv-loop μ-loop
 mul-e c = omega (arith, facts c .small)
@@ -76,7 +77,7 @@ returns-2 : tie.Need-returns-2 Inv-loop μ-loop
 returns-2 c =
     let a = (c .before .before .before .before .before .before .before .before .before .before) .args in
     let g = settle-unpublished (a .image .now) (a .t2) (length (a .trace .now)) (a .session) (passed (c .before .before .before .before)) (sym ((c .before .before) .is-published .ensures) ∙ not-true _ ((c .before) .if2 .taken)) in
-    (c .answers2 .ensures ∙ sym (g .replies), stored-none _ _ _ (g .lists))
+    settle-tells _ _ _ _ (c .answers2 .ensures ∙ sym (g .replies), stored-none _ _ _ (g .lists))
 
 end-of-requires : tie.Need-end-of-requires Inv-loop μ-loop
 end-of-requires c κs = search needs
@@ -104,7 +105,7 @@ returns-3 : tie.Need-returns-3 Inv-loop μ-loop
 returns-3 c =
     let a = (c .before .before .before .before .before .before .before .before .before .before .before .before .before .before .before .before) .args in
     let g = settle-waits (a .image .now) (a .t2) (length (a .trace .now)) (a .session) (passed (c .before .before .before .before .before .before .before .before .before .before)) (sym ((c .before .before .before .before .before .before .before .before) .is-published .ensures) ∙ not-false _ ((c .before .before .before .before .before .before .before) .if2 .left)) ((c .before .before .before .before .before .before) .end-of .result) ((c .before .before .before .before .before .before) .end-of .ensures) ((c .before .before .before .before .before) .loop .t) ((c .before .before .before .before) .loop-test .taken) ((c .before .before .before .before .before) .loop .inv .1) (sym ((c .before .before) .starts-below .ensures) ∙ (c .before) .if3 .taken) in
-    (c .answers3 .ensures ∙ sym (g .replies), stored-none _ _ _ (g .lists))
+    settle-tells _ _ _ _ (c .answers3 .ensures ∙ sym (g .replies), stored-none _ _ _ (g .lists))
 
 add-t : tie.Need-add-t Inv-loop μ-loop
 add-t c = search needs
@@ -153,7 +154,7 @@ returns-4 c =
     let e : (c .before .before .before .before .before .before .before .before .before .before .before .before .before .before .before .before .before) .loop .t ≡ 16 = omega (arith, (c .before .before .before .before .before .before .before .before .before .before .before .before .before .before .before .before .before) .loop .inv .0, (c .before .before .before .before .before .before .before .before .before .before .before .before .before .before .before .before) .loop-test .left) in
     let h = rw e at ((c .before .before .before .before .before .before .before .before .before .before .before .before .before .before .before .before .before) .loop .inv .1) in
     let a = (c .before .before .before .before .before .before .before .before .before .before .before .before .before .before .before .before .before .before .before .before .before .before .before .before .before .before .before .before) .args in
-    let g = settle-stores (a .image .now) (a .t2) (length (a .trace .now)) (a .session) (passed (c .before .before .before .before .before .before .before .before .before .before .before .before .before .before .before .before .before .before .before .before .before .before)) (sym ((c .before .before .before .before .before .before .before .before .before .before .before .before .before .before .before .before .before .before .before .before) .is-published .ensures) ∙ not-false _ ((c .before .before .before .before .before .before .before .before .before .before .before .before .before .before .before .before .before .before .before) .if2 .left)) ((c .before .before .before .before .before .before .before .before .before .before .before .before .before .before .before .before .before .before) .end-of .result) ((c .before .before .before .before .before .before .before .before .before .before .before .before .before .before .before .before .before .before) .end-of .ensures) h in (
+    let g = settle-stores (a .image .now) (a .t2) (length (a .trace .now)) (a .session) (passed (c .before .before .before .before .before .before .before .before .before .before .before .before .before .before .before .before .before .before .before .before .before .before)) (sym ((c .before .before .before .before .before .before .before .before .before .before .before .before .before .before .before .before .before .before .before .before) .is-published .ensures) ∙ not-false _ ((c .before .before .before .before .before .before .before .before .before .before .before .before .before .before .before .before .before .before .before) .if2 .left)) ((c .before .before .before .before .before .before .before .before .before .before .before .before .before .before .before .before .before .before) .end-of .result) ((c .before .before .before .before .before .before .before .before .before .before .before .before .before .before .before .before .before .before) .end-of .ensures) h in settle-tells _ _ _ _ (
       c .answers4 .ensures ∙ rw ((c .before) .idle-session .ensures, (c .before .before) .unmark .ensures) (sym (g .replies)),
       stored-run _ (g .lists) (and-then ((c .before .before .before .before .before .before .before .before .before .before .before .before) .put-homes .ensures .0) (fenced ((c .before .before .before .before .before .before) .put-fence .ensures))) (omega (arith, settle-length (a .t2) (a .session), few (c .before .before .before .before .before .before .before .before .before .before .before .before .before .before .before .before .before .before .before .before .before .before), room (c .before .before .before .before .before .before .before .before .before .before .before .before .before .before .before .before .before .before .before .before .before .before))),
     )

@@ -3,6 +3,7 @@ use Rattle.layout.proofs.Shape.{lay-size}
 use Rattle.layout.specs.declared.laying.LayAnswer.the-variants.{Refused, Laid}
 use Rattle.layout.specs.Lay.{layFault, layAnswer, laidImage, emptyImage}
 use Rattle.layout.proofs.ChecksLaws.{answered-zero, answered-not}
+use Rattle.layout.proofs.ToldLaws.{lay-tells}
 use Rattle.layout.specs.Image.{sizeOf}
 use native.Mathlib.Omega.{arith}
 use lib.ListN.{length, replicate, set, length-set, length-replicate}
@@ -32,7 +33,7 @@ returns : tie.Need-returns
 unfolding layAnswer laidImage
 returns c =
     let n : layFault (c .before .before .before .args .n) (c .before .before .before .args .m) (length (c .before .before .before .args .image .now)) ≡ 0 → ⊥ = λ z. c .if1 .taken ((c .before) .lay-fault .ensures ∙ z) in
-    (rw ((c .before) .lay-fault .ensures) (sym (answered-not _ Refused Laid n)), sym (answered-not _ _ _ n))
+    lay-tells _ _ _ (rw ((c .before) .lay-fault .ensures) (sym (answered-not _ Refused Laid n)), sym (answered-not _ _ _ n))
 
 clear-requires : tie.Need-clear-requires
 clear-requires c κs = search needs
@@ -53,7 +54,7 @@ returns-2 : tie.Need-returns-2
 unfolding layAnswer laidImage
 returns-2 c =
     let z = sym ((c .before .before .before .before .before) .lay-fault .ensures) ∙ (c .before .before .before .before) .if1 .left in
-    (sym (answered-zero _ Refused Laid z), rw (cleared c) (header _ _) ∙ sym (answered-zero _ _ _ z))
+    lay-tells _ _ _ (sym (answered-zero _ Refused Laid z), rw (cleared c) (header _ _) ∙ sym (answered-zero _ _ _ z))
 
 pub lay-spec : {M : Type 1} → statement M
 lay-spec =

@@ -8,7 +8,7 @@ use denote.Enum.Declared.{tagOf}
 use Rattle.lines.specs.Result.{outcomeText}
 use Rattle.lines.specs.Phrase.{isRead}
 use Rattle.lines.specs.declared.outcome.Outcome.{Outcome}
-use Rattle.lines.specs.declared.outcome.Outcome.the-variants.{Refused, Taken, Ok, Start, End, Sealed, Empty, Own, Copy, Home}
+use Rattle.lines.specs.declared.outcome.Outcome.the-variants.{Refused, Ok, Start, End, Sealed, Empty, Own, Copy, Home}
 use Rattle.lines.specs.declared.outcome.Outcome.the-variants.{Wait, None, Held, Cleared, Cut, Noted}
 use Rattle.lines.proofs.outcome.Outcome.{the-type}
 use borrow.Author.Needs.{needs}
@@ -17,19 +17,18 @@ use Rattle.lines.proofs.phrase.read_word.Tie as tie
 
 -- the results that are no read
 abbrev others : List ℕ
-others = 0 ∷ 1 ∷ 2 ∷ 3 ∷ 4 ∷ 5 ∷ 6 ∷ 10 ∷ 11 ∷ 12 ∷ 13 ∷ 14 ∷ 15 ∷ []
+others = 0 ∷ 1 ∷ 2 ∷ 3 ∷ 4 ∷ 5 ∷ 9 ∷ 10 ∷ 11 ∷ 12 ∷ 13 ∷ 14 ∷ []
 
 no-read : (o : Outcome) → OneOf others (tagOf the-type o) → isRead o ≡ false
-no-read (Refused k) t = refl
-no-read (Taken k) t = refl
+no-read (Refused k v) t = refl
 no-read Ok t = refl
 no-read (Start n) t = refl
 no-read (End n) t = refl
 no-read (Sealed n) t = refl
 no-read Empty t = refl
-no-read Own t = absurd (miss others 7 tt t)
-no-read Copy t = absurd (miss others 8 tt t)
-no-read Home t = absurd (miss others 9 tt t)
+no-read Own t = absurd (miss others 6 tt t)
+no-read Copy t = absurd (miss others 7 tt t)
+no-read Home t = absurd (miss others 8 tt t)
 no-read (Wait n) t = refl
 no-read None t = refl
 no-read (Held n) t = refl

@@ -1,6 +1,7 @@
 use Rattle.recovery.specs.Open.{openFault, openReply, openRefused}
 use Rattle.layout.proofs.ChecksLaws.{answered-zero, answered-not}
 use mathlib.Core.Path.{_≡_, sym, _∙_}
+use Rattle.recovery.proofs.ToldLaws.{open-tells}
 use borrow.Author.Needs.{needs}
 use Rattle.recovery.proofs.opening.open.Statement.{statement}
 use Rattle.recovery.proofs.opening.open.Tie as tie
@@ -15,7 +16,7 @@ returns : tie.Need-returns
 unfolding openReply
 returns c =
     let n : openFault ((c .before .before .before .before) .args .image .now) ≡ 0 → ⊥ = λ z. (c .before) .if1 .taken ((c .before .before) .open-fault .ensures ∙ z) in
-    rw (c .fresh .ensures, (c .before .before) .open-fault .ensures) (sym (answered-not _ openRefused _ n))
+    open-tells _ (rw (c .fresh .ensures, (c .before .before) .open-fault .ensures) (sym (answered-not _ openRefused _ n)))
 
 word-requires : tie.Need-word-requires
 word-requires c κs = search needs
@@ -29,7 +30,7 @@ fresh-requires-2 c κs = search needs
 returns-2 : tie.Need-returns-2
 unfolding openReply
 returns-2 c =
-    rw (c .fresh2 .ensures, (c .before) .word2 .ensures, (c .before .before) .word .ensures) (sym (answered-zero _ openRefused _ (sym ((c .before .before .before .before) .open-fault .ensures) ∙ (c .before .before .before) .if1 .left)))
+    open-tells _ (rw (c .fresh2 .ensures, (c .before) .word2 .ensures, (c .before .before) .word .ensures) (sym (answered-zero _ openRefused _ (sym ((c .before .before .before .before) .open-fault .ensures) ∙ (c .before .before .before) .if1 .left))))
 
 pub open-spec : {M : Type 1} → statement M
 open-spec =

@@ -5,6 +5,7 @@ use Rattle.layout.proofs.TraceLaws.{and-then, fenced}
 use native.Mathlib.Omega.{arith}
 use lib.ListN.{length}
 use mathlib.Core.Path.{_≡_, sym, _∙_}
+use Rattle.recovery.proofs.ToldLaws.{recover-tells}
 use borrow.Author.Needs.{needs}
 use Rattle.recovery.proofs.recovering.recover.Statement.{statement}
 use Rattle.recovery.proofs.recovering.recover.Tie as tie
@@ -34,7 +35,7 @@ returns : tie.Need-returns
 returns c =
     let a = (c .before .before .before .before .before .before .before) .args in
     let g = recover-refused (a .image .now) (length (a .trace .now)) ((c .before .before .before) .recover-fault .result) ((c .before .before .before) .recover-fault .ensures) ((c .before .before) .if1 .taken) in
-    (c .refused .ensures ∙ sym (g .replies), stored-none _ _ _ (g .lists))
+    recover-tells _ _ (c .refused .ensures ∙ sym (g .replies), stored-none _ _ _ (g .lists))
 
 word-requires : tie.Need-word-requires
 word-requires c κs = search needs
@@ -54,7 +55,7 @@ same-length-2 c = search needs
 returns-2 : tie.Need-returns-2
 returns-2 c =
     let g = recover-clean (oldest (c .before)) (c .if2 .taken) in
-    (sym (g .replies), stored-none _ _ _ (g .lists))
+    recover-tells _ _ (sym (g .replies), stored-none _ _ _ (g .lists))
 
 log-count-requires : tie.Need-log-count-requires
 log-count-requires c κs = let t = log (c .before) in (t .n-high, t .low)
@@ -113,7 +114,7 @@ returns-3 c =
     (and-then (fenced (c .before .before .before .before .before .before .before .before .before .before .before .before .before .put-fence .ensures))
     (and-then (c .before .before .before .before .before .before .before .before .put-store .ensures)
     (fenced (c .before .before .put-fence2 .ensures)))) in
-    (sym (g .replies), stored-run _ (g .lists) d (recover-fits g (log o .room)))
+    recover-tells _ _ (sym (g .replies), stored-run _ (g .lists) d (recover-fits g (log o .room)))
 
 pub recover-spec : {M : Type 1} → statement M
 recover-spec =

@@ -11,6 +11,7 @@ use lib.Dec.{eqb}
 use native.Mathlib.Omega.{arith}
 use mathlib.Core.Path.{_≡_, sym, _∙_}
 use mathlib.Core.Bool.{not, _&&_}
+use Rattle.snapshot.proofs.ToldLaws.{read-tells}
 use borrow.Author.Needs.{needs}
 use Rattle.snapshot.proofs.reading.read.Statement.{statement}
 use Rattle.snapshot.proofs.reading.read.Tie as tie
@@ -61,7 +62,7 @@ gives-requires : tie.Need-gives-requires
 gives-requires c κs = search needs
 
 returns : tie.Need-returns
-returns c = c .gives .ensures ∙ sym (read-refused _ _ _ _ ((c .before .before) .record-fault .result) (rw ((c .before .before .before) .coherent .ensures) at ((c .before .before) .record-fault .ensures)) ((c .before) .if1 .taken))
+returns c = read-tells _ _ _ _ (c .gives .ensures ∙ sym (read-refused _ _ _ _ ((c .before .before) .record-fault .result) (rw ((c .before .before .before) .coherent .ensures) at ((c .before .before) .record-fault .ensures)) ((c .before) .if1 .taken)))
 
 mul-e : tie.Need-mul-e
 mul-e c = omega (arith, facts c .session .small)
@@ -76,7 +77,7 @@ gives-requires-2 : tie.Need-gives-requires-2
 gives-requires-2 c κs = search needs
 
 returns-2 : tie.Need-returns-2
-returns-2 c = c .gives2 .ensures ∙ sym (read-inactive _ _ _ _ (passed (c .before .before .before .before)) (sym ((c .before .before) .is-active .ensures) ∙ not-true _ ((c .before) .if2 .taken)))
+returns-2 c = read-tells _ _ _ _ (c .gives2 .ensures ∙ sym (read-inactive _ _ _ _ (passed (c .before .before .before .before)) (sym ((c .before .before) .is-active .ensures) ∙ not-true _ ((c .before) .if2 .taken))))
 
 own-place-requires : tie.Need-own-place-requires
 own-place-requires c κs = search needs
@@ -92,8 +93,9 @@ gives-requires-3 c κs = search needs
 
 returns-3 : tie.Need-returns-3
 returns-3 c =
-    c .gives3 .ensures
-    ∙ rw ((c .before .before .before .before) .own-place .ensures) (sym (read-own _ _ _ _ (passed (c .before .before .before .before .before .before .before .before)) (sym ((c .before .before .before .before .before .before) .is-active .ensures) ∙ not-false _ ((c .before .before .before .before .before) .if2 .left)) (rw ((c .before .before .before .before) .own-place .ensures) at ((c .before .before .before) .if3 .taken))))
+    read-tells _ _ _ _
+    (c .gives3 .ensures
+    ∙ rw ((c .before .before .before .before) .own-place .ensures) (sym (read-own _ _ _ _ (passed (c .before .before .before .before .before .before .before .before)) (sym ((c .before .before .before .before .before .before) .is-active .ensures) ∙ not-false _ ((c .before .before .before .before .before) .if2 .left)) (rw ((c .before .before .before .before) .own-place .ensures) at ((c .before .before .before) .if3 .taken)))))
 
 element-copy-out-mark : tie.Need-element-copy-out-mark
 element-copy-out-mark c = facts (c .before .before .before .before .before) .small
@@ -127,9 +129,10 @@ gives-requires-4 c κs = search needs
 
 returns-4 : tie.Need-returns-4
 returns-4 c =
-    c .gives4 .ensures
+    read-tells _ _ _ _
+    (c .gives4 .ensures
     ∙ words-by (desk-at (c .before .before .before .before .before)) (rec-at (c .before .before .before .before .before)) ((c .before .before .before .before .before .before .before .before) .marked-session .result) ((c .before .before .before) .own-place2 .result) ((c .before .before .before) .own-place2 .ensures) ((c .before .before .before .before .before .before .before .before) .marked-session .ensures)
-    ∙ sym (read-copy _ _ _ _ (passed (c .before .before .before .before .before .before .before .before .before .before .before .before .before .before .before)) (sym ((c .before .before .before .before .before .before .before .before .before .before .before .before .before) .is-active .ensures) ∙ not-false _ ((c .before .before .before .before .before .before .before .before .before .before .before .before) .if2 .left)) (rw ((c .before .before .before .before .before .before .before .before .before .before .before) .own-place .ensures) at ((c .before .before .before .before .before .before .before .before .before .before) .if3 .left)) (sym (shown (c .before .before .before .before .before)) ∙ (c .before .before .before .before) .if4 .taken))
+    ∙ sym (read-copy _ _ _ _ (passed (c .before .before .before .before .before .before .before .before .before .before .before .before .before .before .before)) (sym ((c .before .before .before .before .before .before .before .before .before .before .before .before .before) .is-active .ensures) ∙ not-false _ ((c .before .before .before .before .before .before .before .before .before .before .before .before) .if2 .left)) (rw ((c .before .before .before .before .before .before .before .before .before .before .before) .own-place .ensures) at ((c .before .before .before .before .before .before .before .before .before .before) .if3 .left)) (sym (shown (c .before .before .before .before .before)) ∙ (c .before .before .before .before) .if4 .taken)))
 
 home-words-requires : tie.Need-home-words-requires
 home-words-requires c κs = omega (arith, facts (c .before .before .before .before .before .before .before .before .before .before .before) .small)
@@ -139,9 +142,10 @@ gives-requires-5 c κs = search needs
 
 returns-5 : tie.Need-returns-5
 returns-5 c =
-    c .gives5 .ensures
+    read-tells _ _ _ _
+    (c .gives5 .ensures
     ∙ rw ((c .before) .home-words .ensures)
-    (sym (read-home _ _ _ _ (passed (c .before .before .before .before .before .before .before .before .before .before .before .before .before)) (sym ((c .before .before .before .before .before .before .before .before .before .before .before) .is-active .ensures) ∙ not-false _ ((c .before .before .before .before .before .before .before .before .before .before) .if2 .left)) (rw ((c .before .before .before .before .before .before .before .before .before) .own-place .ensures) at ((c .before .before .before .before .before .before .before .before) .if3 .left)) (sym (shown (c .before .before .before)) ∙ (c .before .before) .if4 .left)))
+    (sym (read-home _ _ _ _ (passed (c .before .before .before .before .before .before .before .before .before .before .before .before .before)) (sym ((c .before .before .before .before .before .before .before .before .before .before .before) .is-active .ensures) ∙ not-false _ ((c .before .before .before .before .before .before .before .before .before .before) .if2 .left)) (rw ((c .before .before .before .before .before .before .before .before .before) .own-place .ensures) at ((c .before .before .before .before .before .before .before .before) .if3 .left)) (sym (shown (c .before .before .before)) ∙ (c .before .before) .if4 .left))))
 
 pub read-spec : {M : Type 1} → statement M
 read-spec =

@@ -6,6 +6,7 @@ use Rattle.desk.proofs.DeskEntered.{markable}
 use borrow.Author.Tests.{not-true, not-false}
 use native.Mathlib.Omega.{arith}
 use mathlib.Core.Path.{_≡_, sym, _∙_}
+use Rattle.snapshot.proofs.ToldLaws.{write-tells}
 use borrow.Author.Needs.{needs}
 use Rattle.snapshot.proofs.writing.write.Statement.{statement}
 use Rattle.snapshot.proofs.writing.write.Tie as tie
@@ -27,7 +28,7 @@ answers-requires : tie.Need-answers-requires
 answers-requires c κs = search needs
 
 returns : tie.Need-returns
-returns c = c .answers .ensures ∙ sym (write-refused _ _ _ _ _ ((c .before .before) .record-fault .result) (rw ((c .before .before .before) .coherent .ensures) at ((c .before .before) .record-fault .ensures)) ((c .before) .if1 .taken))
+returns c = write-tells _ _ _ _ _ (c .answers .ensures ∙ sym (write-refused _ _ _ _ _ ((c .before .before) .record-fault .result) (rw ((c .before .before .before) .coherent .ensures) at ((c .before .before) .record-fault .ensures)) ((c .before) .if1 .taken)))
 
 mul-e : tie.Need-mul-e
 mul-e c = omega (arith, facts c .session .small)
@@ -42,7 +43,7 @@ answers-requires-2 : tie.Need-answers-requires-2
 answers-requires-2 c κs = search needs
 
 returns-2 : tie.Need-returns-2
-returns-2 c = c .answers2 .ensures ∙ sym (write-inactive _ _ _ _ _ (passed (c .before .before .before .before)) (sym ((c .before .before) .is-active .ensures) ∙ not-true _ ((c .before) .if2 .taken)))
+returns-2 c = write-tells _ _ _ _ _ (c .answers2 .ensures ∙ sym (write-inactive _ _ _ _ _ (passed (c .before .before .before .before)) (sym ((c .before .before) .is-active .ensures) ∙ not-true _ ((c .before) .if2 .taken))))
 
 own-place-requires : tie.Need-own-place-requires
 own-place-requires c κs = search needs
@@ -61,8 +62,9 @@ answers-requires-3 c κs = search needs
 
 returns-3 : tie.Need-returns-3
 returns-3 c =
-    c .answers3 .ensures
-    ∙ rw ((c .before) .overwrite .ensures) (sym (write-own _ _ _ _ _ (passed (c .before .before .before .before .before .before .before)) (sym ((c .before .before .before .before .before) .is-active .ensures) ∙ not-false _ ((c .before .before .before .before) .if2 .left)) (rw ((c .before .before .before) .own-place .ensures) at ((c .before .before) .if3 .taken))))
+    write-tells _ _ _ _ _
+    (c .answers3 .ensures
+    ∙ rw ((c .before) .overwrite .ensures) (sym (write-own _ _ _ _ _ (passed (c .before .before .before .before .before .before .before)) (sym ((c .before .before .before .before .before) .is-active .ensures) ∙ not-false _ ((c .before .before .before .before) .if2 .left)) (rw ((c .before .before .before) .own-place .ensures) at ((c .before .before) .if3 .taken)))))
 
 element-copy-out-mark : tie.Need-element-copy-out-mark
 element-copy-out-mark c = facts (c .before .before .before .before .before) .small
@@ -96,17 +98,19 @@ answers-requires-4 c κs = search needs
 
 returns-4 : tie.Need-returns-4
 returns-4 c =
-    c .answers4 .ensures
+    write-tells _ _ _ _ _
+    (c .answers4 .ensures
     ∙ rw ((c .before) .idle-session .ensures, (c .before .before) .unmark .ensures)
-    (sym (write-taken _ _ _ _ _ (passed (c .before .before .before .before .before .before .before .before .before .before .before .before .before .before)) (sym ((c .before .before .before .before .before .before .before .before .before .before .before .before) .is-active .ensures) ∙ not-false _ ((c .before .before .before .before .before .before .before .before .before .before .before) .if2 .left)) (rw ((c .before .before .before .before .before .before .before .before .before .before) .own-place .ensures) at ((c .before .before .before .before .before .before .before .before .before) .if3 .left)) ((c .before .before .before .before .before .before) .copy-fault .result) (rw ((c .before .before .before .before .before .before .before) .empty-slot .ensures) at ((c .before .before .before .before .before .before) .copy-fault .ensures)) ((c .before .before .before .before .before) .if4 .taken)))
+    (sym (write-taken _ _ _ _ _ (passed (c .before .before .before .before .before .before .before .before .before .before .before .before .before .before)) (sym ((c .before .before .before .before .before .before .before .before .before .before .before .before) .is-active .ensures) ∙ not-false _ ((c .before .before .before .before .before .before .before .before .before .before .before) .if2 .left)) (rw ((c .before .before .before .before .before .before .before .before .before .before) .own-place .ensures) at ((c .before .before .before .before .before .before .before .before .before) .if3 .left)) ((c .before .before .before .before .before .before) .copy-fault .result) (rw ((c .before .before .before .before .before .before .before) .empty-slot .ensures) at ((c .before .before .before .before .before .before) .copy-fault .ensures)) ((c .before .before .before .before .before) .if4 .taken))))
 
 answers-requires-5 : tie.Need-answers-requires-5
 answers-requires-5 c κs = search needs
 
 returns-5 : tie.Need-returns-5
 returns-5 c =
-    c .answers5 .ensures
-    ∙ sym (write-full _ _ _ _ _ (passed (c .before .before .before .before .before .before .before .before .before .before .before)) (sym ((c .before .before .before .before .before .before .before .before .before) .is-active .ensures) ∙ not-false _ ((c .before .before .before .before .before .before .before .before) .if2 .left)) (rw ((c .before .before .before .before .before .before .before) .own-place .ensures) at ((c .before .before .before .before .before .before) .if3 .left)) ((c .before .before .before) .copy-fault .result) (rw ((c .before .before .before .before) .empty-slot .ensures) at ((c .before .before .before) .copy-fault .ensures)) ((c .before .before) .if4 .left) ((c .before) .if5 .taken))
+    write-tells _ _ _ _ _
+    (c .answers5 .ensures
+    ∙ sym (write-full _ _ _ _ _ (passed (c .before .before .before .before .before .before .before .before .before .before .before)) (sym ((c .before .before .before .before .before .before .before .before .before) .is-active .ensures) ∙ not-false _ ((c .before .before .before .before .before .before .before .before) .if2 .left)) (rw ((c .before .before .before .before .before .before .before) .own-place .ensures) at ((c .before .before .before .before .before .before) .if3 .left)) ((c .before .before .before) .copy-fault .result) (rw ((c .before .before .before .before) .empty-slot .ensures) at ((c .before .before .before) .copy-fault .ensures)) ((c .before .before) .if4 .left) ((c .before) .if5 .taken)))
 
 slot-for-requires : tie.Need-slot-for-requires
 slot-for-requires c κs = search needs
@@ -134,9 +138,10 @@ answers-requires-6 c κs = search needs
 
 returns-6 : tie.Need-returns-6
 returns-6 c =
-    c .answers6 .ensures
+    write-tells _ _ _ _ _
+    (c .answers6 .ensures
     ∙ rw ((c .before) .extend .ensures, (c .before .before) .slot-for .ensures, (c .before .before .before .before .before .before) .empty-slot .ensures)
-    (sym (write-copied _ _ _ _ _ (passed (c .before .before .before .before .before .before .before .before .before .before .before .before .before)) (sym ((c .before .before .before .before .before .before .before .before .before .before .before) .is-active .ensures) ∙ not-false _ ((c .before .before .before .before .before .before .before .before .before .before) .if2 .left)) (rw ((c .before .before .before .before .before .before .before .before .before) .own-place .ensures) at ((c .before .before .before .before .before .before .before .before) .if3 .left)) ((c .before .before .before .before .before) .copy-fault .result) (rw ((c .before .before .before .before .before .before) .empty-slot .ensures) at ((c .before .before .before .before .before) .copy-fault .ensures)) ((c .before .before .before) .if5 .left)))
+    (sym (write-copied _ _ _ _ _ (passed (c .before .before .before .before .before .before .before .before .before .before .before .before .before)) (sym ((c .before .before .before .before .before .before .before .before .before .before .before) .is-active .ensures) ∙ not-false _ ((c .before .before .before .before .before .before .before .before .before .before) .if2 .left)) (rw ((c .before .before .before .before .before .before .before .before .before) .own-place .ensures) at ((c .before .before .before .before .before .before .before .before) .if3 .left)) ((c .before .before .before .before .before) .copy-fault .result) (rw ((c .before .before .before .before .before .before) .empty-slot .ensures) at ((c .before .before .before .before .before) .copy-fault .ensures)) ((c .before .before .before) .if5 .left))))
 
 pub write-spec : {M : Type 1} → statement M
 write-spec =

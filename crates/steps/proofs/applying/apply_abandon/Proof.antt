@@ -12,7 +12,7 @@ gives-requires : tie.Need-gives-requires
 gives-requires c κs = search needs
 
 returns : tie.Need-returns
-returns c = rw (c .gives .ensures, (c .before) .abandon-outcome .ensures, (c .before .before .before) .abandon .ensures)
+returns c = rw (c .gives .ensures, (c .before) .abandon-outcome .ensures, (c .before .before .before) .abandon .ensures .0)
 
 pub apply-abandon-spec : {M : Type 1} → statement M
 apply-abandon-spec =

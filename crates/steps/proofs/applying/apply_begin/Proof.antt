@@ -12,7 +12,7 @@ gives-requires : tie.Need-gives-requires
 gives-requires c κs = search needs
 
 returns : tie.Need-returns
-returns c = rw (c .gives .ensures, (c .before) .begin-outcome .ensures, (c .before .before .before) .begin .ensures)
+returns c = rw (c .gives .ensures, (c .before) .begin-outcome .ensures, (c .before .before .before) .begin .ensures .0)
 
 pub apply-begin-spec : {M : Type 1} → statement M
 apply-begin-spec =

@@ -12,7 +12,7 @@ gives-requires : tie.Need-gives-requires
 gives-requires c κs = search needs
 
 returns : tie.Need-returns
-returns c = rw (c .gives .ensures, (c .before) .publish-outcome .ensures, (c .before .before .before) .publish .ensures)
+returns c = rw (c .gives .ensures, (c .before) .publish-outcome .ensures, (c .before .before .before) .publish .ensures .0)
 
 pub apply-publish-spec : {M : Type 1} → statement M
 apply-publish-spec =

@@ -12,7 +12,7 @@ gives-requires : tie.Need-gives-requires
 gives-requires c κs = search needs
 
 returns : tie.Need-returns
-returns c = rw (c .gives .ensures, (c .before) .write-outcome .ensures, (c .before .before .before) .write .ensures)
+returns c = rw (c .gives .ensures, (c .before) .write-outcome .ensures, (c .before .before .before) .write .ensures .0)
 
 pub apply-write-spec : {M : Type 1} → statement M
 apply-write-spec =

@@ -15,16 +15,16 @@ enum-told-3 : tie.Need-enum-told-3
 enum-told-3 c = search needs
 
 returns : tie.Need-returns
-returns c = rw ((c .before) .a .given .1)
+returns c ws = rw ((c .before) .a .given .1)
 
 returns-2 : tie.Need-returns-2
-returns-2 c = search needs
+returns-2 c ws = rw (c .enum-told .given .1)
 
 returns-3 : tie.Need-returns-3
-returns-3 c = search needs
+returns-3 c ws = rw (c .enum-told2 .given .1)
 
 returns-4 : tie.Need-returns-4
-returns-4 c = search needs
+returns-4 c ws = rw (c .enum-told3 .given .1)
 
 pub read-outcome-spec : {M : Type 1} → statement M
 read-outcome-spec =

@@ -44,7 +44,7 @@ returns c =
     let size = (c .before .before .before .before .before .before .before .before .before .before .before) .image-size .ensures .1 in
     let w = (c .before .before .before .before .before .before .before .before .before) .lay .ensures in
     let e = laid-by (a .image .now) (a .n) (a .m) size (w .0) ((c .before .before .before .before .before) .answer .given .1) in
-    (search needs, ((rw e ((c .before .before) .put-line .ensures .0), rw e), laid-memory (a .image .now) (a .n) (a .m) size (w .1)))
+    (search needs, ((rw e ((c .before .before) .put-line .ensures .0), rw e), laid-memory (a .image .now) (a .n) (a .m) size (w .1 .0)))
 
 same-length-3 : tie.Need-same-length-3
 same-length-3 c = search needs
@@ -58,7 +58,7 @@ returns-2 c =
     let size = (c .before .before .before .before .before .before .before .before .before .before) .image-size .ensures .1 in
     let w = (c .before .before .before .before .before .before .before .before) .lay .ensures in
     let e = laid-by (a .image .now) (a .n) (a .m) size (w .0) ((c .before .before .before .before) .enum-told .given .1) in
-    (search needs, ((rw e ((c .before .before) .put-line2 .ensures .0), rw e (ap (λ (k : ℕ). laidOf (a .s) k Laid ((c .before .before) .put-line2 .result)) size)), laid-memory (a .image .now) (a .n) (a .m) size (w .1)))
+    (search needs, ((rw e ((c .before .before) .put-line2 .ensures .0), rw e (ap (λ (k : ℕ). laidOf (a .s) k Laid ((c .before .before) .put-line2 .result)) size)), laid-memory (a .image .now) (a .n) (a .m) size (w .1 .0)))
 
 pub lay-out-spec : {M : Type 1} → statement M
 lay-out-spec =

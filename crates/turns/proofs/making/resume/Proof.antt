@@ -45,7 +45,7 @@ returns c =
     let q = (c .before .before .before .before .before .before .before .before .before .before) .recover .ensures in
     let z = sym (ap (λ (a : RecoverReply). a .answer) (q .0)) ∙ (c .before .before .before .before) .enum-told .given .1 in
     let w = (c .before .before) .recovered .ensures in
-    (w .0, ((rw z (w .1 .0), rw z (w .1 .1)), q .1))
+    (w .0, ((rw z (w .1 .0), rw z (w .1 .1)), (q .1 .0, q .1 .1 .0)))
 
 same-length-4 : tie.Need-same-length-4
 same-length-4 c = search needs
@@ -61,7 +61,7 @@ returns-2 c =
     let q = (c .before .before .before .before .before .before .before .before .before .before) .recover .ensures in
     let z = sym (ap (λ (a : RecoverReply). a .answer) (q .0)) ∙ (c .before .before .before .before) .enum-told2 .given .1 in
     let w = (c .before .before) .recovered2 .ensures in
-    (w .0, ((rw z (w .1 .0), rw z (w .1 .1)), q .1))
+    (w .0, ((rw z (w .1 .0), rw z (w .1 .1)), (q .1 .0, q .1 .1 .0)))
 
 same-length-7 : tie.Need-same-length-7
 same-length-7 c = search needs
@@ -77,7 +77,7 @@ returns-3 c =
     let q = (c .before .before .before .before .before .before .before .before .before .before) .recover .ensures in
     let z = sym (ap (λ (a : RecoverReply). a .answer) (q .0)) ∙ (c .before .before .before .before) .enum-told3 .given .1 in
     let w = (c .before .before) .recovered3 .ensures in
-    (w .0, ((rw z (w .1 .0), rw z (w .1 .1)), q .1))
+    (w .0, ((rw z (w .1 .0), rw z (w .1 .1)), (q .1 .0, q .1 .1 .0)))
 
 same-length-10 : tie.Need-same-length-10
 same-length-10 c = search needs
@@ -93,7 +93,7 @@ returns-4 c =
     let q = (c .before .before .before .before .before .before .before .before .before .before .before) .recover .ensures in
     let z = sym (ap (λ (a : RecoverReply). a .answer) (q .0)) ∙ (c .before .before .before .before .before) .answer .given .1 in
     let w = (c .before .before) .replayed .ensures in
-    (w .0, ((rw z (w .1 .0), rw z (w .1 .1)), q .1))
+    (w .0, ((rw z (w .1 .0), rw z (w .1 .1)), (q .1 .0, q .1 .1 .0)))
 
 pub resume-spec : {M : Type 1} → statement M
 resume-spec =

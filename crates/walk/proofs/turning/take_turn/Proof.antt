@@ -95,7 +95,7 @@ returns-2 c =
     let e = (c .before) .opened .ensures in
     rw (c .gives2 .ensures) (
       (turned ((c .before .before .before .before .before .before .before .before .before .before .before .before .before .before .before .before .before) .pre .0) (n .0) (e .0) (search needs), omega (arith, n .0 .numbered, e .0 .numbered)),
-      opened-turn (length (a .trace .now)) (sceneOf (a .input .now) (a .image .now) (a .output .now) (a .desk) (a .s)) (le-ltb _ _ ((c .before .before .before .before .before .before .before .before .before .before) .if1 .left)) (n .1) ((c .before .before .before .before .before) .enum-told .given .1) (ap (λ (x : OpenReply). x .desk) ((c .before .before .before) .«open» .ensures)) (e .1),
+      opened-turn (length (a .trace .now)) (sceneOf (a .input .now) (a .image .now) (a .output .now) (a .desk) (a .s)) (le-ltb _ _ ((c .before .before .before .before .before .before .before .before .before .before) .if1 .left)) (n .1) ((c .before .before .before .before .before) .enum-told .given .1) (ap (λ (x : OpenReply). x .desk) ((c .before .before .before) .«open» .ensures .0)) (e .1),
     )
 
 same-length-4 : tie.Need-same-length-4

@@ -7,6 +7,7 @@ use mathlib.Core.Bool.{true, false}
 use Rattle.desk.specs.Desk.{sessionAt, isActive}
 use borrow.Author.Tests.{not-true, not-false}
 use Rattle.desk.specs.Abandon.{abandonReply, abandonFault, abandonRefused}
+use Rattle.desk.proofs.ToldLaws.{abandon-tells}
 use borrow.Author.Needs.{needs}
 use Rattle.desk.proofs.state.Desk.abandon.Statement.{statement}
 use Rattle.desk.proofs.state.Desk.abandon.Tie as tie
@@ -35,7 +36,7 @@ session-fault-requires c κs = search needs
 
 returns : tie.Need-returns
 unfolding abandonReply abandonFault
-returns c = rw (fault-is (c .before)) (sym (answered-refused _ _ (abandonRefused _) _ (λ z. c .if1 .taken (fault-is (c .before) ∙ z))))
+returns c = abandon-tells _ _ (rw (fault-is (c .before)) (sym (answered-refused _ _ (abandonRefused _) _ (λ z. c .if1 .taken (fault-is (c .before) ∙ z)))))
 
 mul-e : tie.Need-mul-e
 mul-e c = omega (arith, inside c .below-16)
@@ -48,7 +49,7 @@ is-active-requires c κs = search needs
 
 returns-2 : tie.Need-returns-2
 unfolding abandonReply abandonFault
-returns-2 c = rw (not-active c) (sym (answered-next _ _ (abandonRefused _) _ (passed (c .before .before .before)) (λ z. omega arith)))
+returns-2 c = abandon-tells _ _ (rw (not-active c) (sym (answered-next _ _ (abandonRefused _) _ (passed (c .before .before .before)) (λ z. omega arith))))
 
 unmark-requires : tie.Need-unmark-requires
 unmark-requires c κs =
@@ -66,7 +67,7 @@ element-set-from-idle c = inside (c .before .before .before .before .before .bef
 
 returns-3 : tie.Need-returns-3
 unfolding abandonReply abandonFault
-returns-3 c = rw ((c .before) .unmark .ensures, c .idle-session .ensures, was-active (c .before .before .before .before)) (sym (answered-done _ _ (abandonRefused _) _ (passed (c .before .before .before .before .before .before .before)) refl))
+returns-3 c = abandon-tells _ _ (rw ((c .before) .unmark .ensures, c .idle-session .ensures, was-active (c .before .before .before .before)) (sym (answered-done _ _ (abandonRefused _) _ (passed (c .before .before .before .before .before .before .before)) refl)))
 
 pub abandon-spec : {M : Type 1} → statement M
 abandon-spec =

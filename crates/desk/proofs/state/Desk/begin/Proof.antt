@@ -7,6 +7,7 @@ use Rattle.layout.proofs.ChecksLaws.{answered-refused, answered-next, answered-
 use Rattle.desk.proofs.DeskEntered.{DeskEntered, desk-entered}
 use Rattle.desk.specs.Entering.{deskFault}
 use Rattle.desk.specs.Begin.{beginReply, beginFault, beginRefused}
+use Rattle.desk.proofs.ToldLaws.{begin-tells}
 use borrow.Author.Needs.{needs}
 use Rattle.desk.proofs.state.Desk.begin.Statement.{statement}
 use Rattle.desk.proofs.state.Desk.begin.Tie as tie
@@ -35,7 +36,7 @@ session-fault-requires c κs = search needs
 
 returns : tie.Need-returns
 unfolding beginReply beginFault
-returns c = rw (fault-is (c .before)) (sym (answered-refused _ _ (beginRefused _) _ (λ z. c .if1 .taken (fault-is (c .before) ∙ z))))
+returns c = begin-tells _ _ (rw (fault-is (c .before)) (sym (answered-refused _ _ (beginRefused _) _ (λ z. c .if1 .taken (fault-is (c .before) ∙ z)))))
 
 mul-e : tie.Need-mul-e
 mul-e c = omega (arith, inside c .below-16)
@@ -48,7 +49,7 @@ is-idle-requires c κs = search needs
 
 returns-2 : tie.Need-returns-2
 unfolding beginReply beginFault
-returns-2 c = rw (not-idle c) (sym (answered-next _ _ (beginRefused _) _ (passed (c .before .before .before)) (λ z. omega arith)))
+returns-2 c = begin-tells _ _ (rw (not-idle c) (sym (answered-next _ _ (beginRefused _) _ (passed (c .before .before .before)) (λ z. omega arith))))
 
 with-phase-requires : tie.Need-with-phase-requires
 with-phase-requires c κs = search needs
@@ -61,7 +62,7 @@ element-set-from-begun c = inside (c .before .before .before .before) .below-16
 
 returns-3 : tie.Need-returns-3
 unfolding beginReply beginFault
-returns-3 c = rw (c .with-phase .ensures, was-idle (c .before)) (sym (answered-done _ _ (beginRefused _) _ (passed (c .before .before .before .before)) refl))
+returns-3 c = begin-tells _ _ (rw (c .with-phase .ensures, was-idle (c .before)) (sym (answered-done _ _ (beginRefused _) _ (passed (c .before .before .before .before)) refl)))
 
 pub begin-spec : {M : Type 1} → statement M
 begin-spec =

@@ -7,6 +7,7 @@ use Rattle.layout.proofs.ChecksLaws.{answered-refused, answered-next, answered-
 use Rattle.desk.proofs.DeskEntered.{DeskEntered, desk-entered, clock-moves}
 use Rattle.desk.specs.Entering.{deskFault}
 use Rattle.desk.specs.Publish.{publishReply, publishFault, publishRefused}
+use Rattle.desk.proofs.ToldLaws.{publish-tells}
 use borrow.Author.Needs.{needs}
 use Rattle.desk.proofs.state.Desk.publish.Statement.{statement}
 use Rattle.desk.proofs.state.Desk.publish.Tie as tie
@@ -35,7 +36,7 @@ session-fault-requires c κs = search needs
 
 returns : tie.Need-returns
 unfolding publishReply publishFault
-returns c = rw (fault-is (c .before)) (sym (answered-refused _ _ (publishRefused _) _ (λ z. c .if1 .taken (fault-is (c .before) ∙ z))))
+returns c = publish-tells _ _ (rw (fault-is (c .before)) (sym (answered-refused _ _ (publishRefused _) _ (λ z. c .if1 .taken (fault-is (c .before) ∙ z)))))
 
 mul-e : tie.Need-mul-e
 mul-e c = omega (arith, inside c .below-16)
@@ -48,7 +49,7 @@ is-sealed-requires c κs = search needs
 
 returns-2 : tie.Need-returns-2
 unfolding publishReply publishFault
-returns-2 c = rw (not-sealed c) (sym (answered-next _ _ (publishRefused _) _ (passed (c .before .before .before)) (λ z. omega arith)))
+returns-2 c = publish-tells _ _ (rw (not-sealed c) (sym (answered-next _ _ (publishRefused _) _ (passed (c .before .before .before)) (λ z. omega arith))))
 
 add-end : tie.Need-add-end
 add-end c = omega (arith, clock-moves _ (inside (c .before .before .before) .coherent))
@@ -64,7 +65,7 @@ element-set-from-published c = inside (c .before .before .before .before) .below
 
 returns-3 : tie.Need-returns-3
 unfolding publishReply publishFault
-returns-3 c = rw (c .with-phase .ensures, was-sealed (c .before)) (sym (answered-done _ _ (publishRefused _) _ (passed (c .before .before .before .before)) refl))
+returns-3 c = publish-tells _ _ (rw (c .with-phase .ensures, was-sealed (c .before)) (sym (answered-done _ _ (publishRefused _) _ (passed (c .before .before .before .before)) refl)))
 
 pub publish-spec : {M : Type 1} → statement M
 publish-spec =

@@ -1,0 +1,170 @@
+-- Finish keeps the invariant.
+use Prim.Native.Nat.{ℕ, _+_, _*_, _≤_, _<_}
+use mathlib.Core.Path.{_≡_, refl, ap, _∙_}
+use mathlib.Core.Logic.{_⊎_, inl, inr, _≢_}
+use mathlib.Core.Bool.{Bool, true, false, cond, not}
+use mathlib.Core.List.{List, [], _∷_}
+use native.Mathlib.Decide.{ℕ-discrete}
+use native.Mathlib.Omega.{arith}
+use lib.ListN.{length, getD}
+use lib.Dec.{T, eqb, leb, eqb→eq}
+use Rattle.layout.specs.Crash.{crashed as cut}
+use Rattle.layout.specs.Entries.{made}
+use Rattle.layout.specs.Image.{placeOf, slotAt}
+use Rattle.layout.specs.Told.{empty, sealedAt}
+use Rattle.history.specs.Log.{In, Occupied}
+use Rattle.history.specs.Layout.{Home, body, denoted, view, Sound}
+use Rattle.history.specs.Batch.{laid}
+use Rattle.history.specs.Call.{finish}
+use Rattle.history.specs.Cut.{feedCut}
+use Rattle.history.specs.Desk.{Copy, spot, writes, Session, idle, active, sealed, published, Desk, upd, withSession}
+use Rattle.history.specs.Due.{refuse, clockLimit, logWords, finishEntries, finishes, dueOf}
+use Rattle.history.specs.History.{History, sealing}
+use Rattle.history.proofs.Batch.{Words, Fit, cut-words, made-words, made-turned}
+use Rattle.history.proofs.Beside.{Beside, beside-old, beside-back}
+use Rattle.history.proofs.Book.{unseen}
+use Rattle.history.proofs.Choice.{neqb→ne}
+use Rattle.history.proofs.Copies.{word-in, upd-same, upd-other}
+use Rattle.history.proofs.Invariant.{Active}
+use Rattle.history.proofs.Moves.{seal, place-in}
+use Rattle.history.proofs.Slots.{finish-fit, finish-bodies, finish-numbers, finish-homes, finish-outside, finish-log, finish-sound}
+use Rattle.history.proofs.Kept.{Holds, Crashed, crashed, Done, said, refusing, past-room, past-session, idles}
+
+module _ (N M : ℕ) (img : List ℕ) (d : Desk) (h : History) (H : Holds N M img d h) (len s : ℕ) where
+  module _ (l : s < M) (b q : ℕ) (cs : List Copy) (is : d .session s ≡ active b q cs) (some-copy : 1 ≤ length cs) where
+    act : Active N (view N img) h (d .clock) s b q cs
+    act = rw is at (H .inv .fine s l)
+
+    inside : placeOf s q < 2 * M
+    inside = place-in M s q l (act .reserved)
+
+    vacant : getD img (slotAt N (placeOf s q)) 0 ≡ 0
+    vacant = act .vacant some-copy
+
+    module _ (img′ : List ℕ) (ws : Words (laid (slotAt N (placeOf s q) + 1) (logWords cs)) (slotAt N (placeOf s q)) (d .clock) img img′) where
+      bodies : (u : ℕ) → u ≢ placeOf s q → body N img′ u ≡ body N img u
+      bodies = finish-bodies N M img (placeOf s q) (d .clock) cs (H .whole) inside (act .lawful .few) img′ ws
+
+      numbers : (u : ℕ) → u ≢ placeOf s q → getD img′ (slotAt N u) 0 ≡ getD img (slotAt N u) 0
+      numbers = finish-numbers N M img (placeOf s q) (d .clock) cs (H .whole) inside (act .lawful .few) img′ ws
+
+      homes : (i : ℕ) → Home N i → getD img′ i 0 ≡ getD img i 0
+      homes = finish-homes N M img (placeOf s q) (d .clock) cs (H .whole) inside (act .lawful .few) img′ ws
+
+      below-home : (j : ℕ) → j < 4 → getD img′ j 0 ≡ getD img j 0
+      below-home j lj = finish-outside N M img (placeOf s q) (d .clock) cs (H .whole) inside (act .lawful .few) img′ ws j (inl (omega arith))
+
+      was : (u : ℕ) → u ≢ placeOf s q → Occupied (2 * M) (view N img′) u → Occupied (2 * M) (view N img) u
+      was u n o = (o .0, rw (numbers u n) at (o .1))
+
+      -- the number has not arrived: nothing has changed its meaning
+      not-yet : getD img′ (slotAt N (placeOf s q)) 0 ≡ 0 → Crashed N M img′ h
+      not-yet z = record {
+        good = record {
+          whole = ws .long ∙ H .whole;
+          sound = λ u o. rw (bodies u (off u o)) (H .sounds u (was u (off u o) o));
+          apart = λ u t i x y n a c.
+              rw (numbers u (off u (a .occupied)), numbers t (off t (c .occupied)))
+              (H .inv .apart u t i x y n (beside-back (2 * M) (Home N) (view N img) (view N img′) (placeOf s q) beside u i x (off u (a .occupied)) a)
+              (beside-back (2 * M) (Home N) (view N img) (view N img′) (placeOf s q) beside t i y (off t (c .occupied)) c));
+        };
+        final = λ r j lr lj. beside-old (2 * M) (Home N) (view N img) (view N img′) (placeOf s q) beside (spot r j) _ (omega arith) (λ x a. a .occupied .1 z) (H .inv .final r j lr lj);
+      }
+        where
+          off : (u : ℕ) → Occupied (2 * M) (view N img′) u → u ≢ placeOf s q
+          off u o e = o .1 (rw e z)
+
+          beside : Beside (2 * M) (Home N) (view N img) (view N img′) (placeOf s q)
+          beside = record { empty = vacant; log-same = λ u lu n. ap denoted (bodies u n); number-same = λ u lu n. numbers u n; home-same = homes }
+
+      -- the number has arrived, and so has everything: sealed
+      has : getD img′ (slotAt N (placeOf s q)) 0 ≡ d .clock → ((i w : ℕ) → In i w (laid (slotAt N (placeOf s q) + 1) (logWords cs)) → getD img′ i 0 ≡ w)
+          → Holds N M img′ (withSession s (sealed (d .clock) q cs) d) (sealing s h)
+      has e all = record {
+        whole = ws .long ∙ H .whole;
+        sounds = λ u o. go u o (ℕ-discrete u (placeOf s q));
+        inv = seal N M (view N img) (view N img′) d h s b q cs (H .inv) l is some-copy
+            (record {
+              was-empty = vacant;
+              number-p = e;
+              only-p = λ i w k. rw logs at k;
+              covers-p = λ r ws′ m j lj. inl (rw logs (word-in cs r ws′ m j lj));
+              number-same = λ u lu n. numbers u n;
+              log-same = λ u lu n. ap denoted (bodies u n);
+              home-same = homes;
+            });
+      }
+        where
+          logs : denoted (body N img′ (placeOf s q)) ≡ writes cs
+          logs = finish-log N M img (placeOf s q) (d .clock) cs (H .whole) inside (act .lawful .few) img′ ws all
+
+          go : (u : ℕ) → Occupied (2 * M) (view N img′) u → Dec (u ≡ placeOf s q) → Sound N (body N img′ u)
+          go u o (yes x) = rw x (finish-sound N M img (placeOf s q) (d .clock) cs (H .whole) inside (act .lawful .few) img′ ws all (act .lawful) some-copy)
+          go u o (no n) = rw (bodies u n) (H .sounds u (was u n o))
+
+    fit : Fit (laid (slotAt N (placeOf s q) + 1) (logWords cs)) (slotAt N (placeOf s q)) img
+    fit = finish-fit N M img (placeOf s q) (d .clock) cs (H .whole) inside (act .lawful .few)
+
+    sealed-done : Done N M img d h (finish len s) (record { answer = sealedAt (d .clock); entries = finishEntries N (placeOf s q) (d .clock) cs })
+    sealed-done = record {
+      kept = rw is (go₁ (ws₁ .turn));
+      later = record { clock = omega arith; views = λ σ r k. unseen σ r (h .sealed) s (h .draft s) (h .opening r) };
+      marks = λ p. rw is (mark p (ℕ-discrete p (placeOf s q)));
+      low = λ j lj. below-home img₁ ws₁ j lj;
+      low-cut = λ k sel j lj. below-home _ (cut-words _ (slotAt N (placeOf s q)) (d .clock) img fit k sel) j lj;
+      broken = λ k sel. go₂ k sel (cut-words _ (slotAt N (placeOf s q)) (d .clock) img fit k sel);
+    }
+      where
+        img₁ : List ℕ
+        img₁ = made (finishEntries N (placeOf s q) (d .clock) cs) img
+
+        ws₁ : Words (laid (slotAt N (placeOf s q) + 1) (logWords cs)) (slotAt N (placeOf s q)) (d .clock) img img₁
+        ws₁ = made-words _ (slotAt N (placeOf s q)) (d .clock) img fit
+
+        turned : getD img₁ (slotAt N (placeOf s q)) 0 ≡ d .clock
+        turned = made-turned _ (slotAt N (placeOf s q)) (d .clock) img fit (omega (arith, H .whole, inside))
+
+        mark : (p : ℕ) → Dec (p ≡ placeOf s q) → getD img₁ (slotAt N p) 0 ≡ upd (placeOf s q) (d .clock) (view N img .number) p
+        mark p (yes e) = rw (e, upd-same (placeOf s q) (d .clock) (view N img .number)) turned
+        mark p (no n) = rw (upd-other (placeOf s q) (d .clock) (view N img .number) p n) (numbers img₁ ws₁ p n)
+
+        go₁ : (getD img₁ (slotAt N (placeOf s q)) 0 ≡ getD img (slotAt N (placeOf s q)) 0)
+            ⊎ ((getD img₁ (slotAt N (placeOf s q)) 0 ≡ d .clock) × ((i w : ℕ) → In i w (laid (slotAt N (placeOf s q) + 1) (logWords cs)) → getD img₁ i 0 ≡ w))
+            → Holds N M img₁ (withSession s (sealed (d .clock) q cs) d) (sealing s h)
+        go₁ (inl e) = absurd (omega (arith, H .inv .positive, turned, e, vacant))
+        go₁ (inr c) = has img₁ ws₁ (c .0) (c .1)
+
+        go₂ : (k : ℕ) (sel : ℕ → Bool)
+            → Words (laid (slotAt N (placeOf s q) + 1) (logWords cs)) (slotAt N (placeOf s q)) (d .clock) img (cut k sel (finishEntries N (placeOf s q) (d .clock) cs) img)
+            → Crashed N M (cut k sel (finishEntries N (placeOf s q) (d .clock) cs) img)
+            (feedCut N d (finish len s) (sealedAt (d .clock)) (cut k sel (finishEntries N (placeOf s q) (d .clock) cs) img) h)
+        go₂ k sel ws = rw is (at (eqb (getD img₂ (slotAt N (placeOf s q)) 0) (d .clock)) (eqb→eq _ (d .clock)) (neqb→ne _ (d .clock)) (ws .turn))
+          where
+            img₂ : List ℕ
+            img₂ = cut k sel (finishEntries N (placeOf s q) (d .clock) cs) img
+
+            at : (t : Bool) → (T t → getD img₂ (slotAt N (placeOf s q)) 0 ≡ d .clock) → (T (not t) → getD img₂ (slotAt N (placeOf s q)) 0 ≢ d .clock)
+                → (getD img₂ (slotAt N (placeOf s q)) 0 ≡ getD img (slotAt N (placeOf s q)) 0)
+                ⊎ ((getD img₂ (slotAt N (placeOf s q)) 0 ≡ d .clock) × ((i w : ℕ) → In i w (laid (slotAt N (placeOf s q) + 1) (logWords cs)) → getD img₂ i 0 ≡ w))
+                → Crashed N M img₂ (cond t (sealing s h) h)
+            at true y n (inl e) = absurd (omega (arith, H .inv .positive, y tt, e, vacant))
+            at true y n (inr c) = crashed N M img₂ _ _ (has img₂ ws (c .0) (c .1))
+            at false y n (inl e) = not-yet img₂ ws (e ∙ vacant)
+            at false y n (inr c) = absurd (n tt (c .0))
+
+  finish-at : s < M → (x : Session) → d .session s ≡ x → Done N M img d h (finish len s) (finishes N (d .clock) s x)
+  finish-at l idle e = refusing N M img d h H (finish len s) 6 refl
+  finish-at l (active b q []) e =
+      said N M img d h H (finish len s) empty _ (λ _. refl) (record { clock = omega arith; views = λ σ u k. refl })
+      (idles N M img d h H s b q [] h e l (record { opening = refl; sealed = refl; drafts = λ u n. refl; starts = λ u n. refl })) refl (λ _. refl)
+  finish-at l (active b q (c ∷ cs)) e = go (leb clockLimit (d .clock))
+    where
+      go : (t : Bool) → Done N M img d h (finish len s) (cond t (refuse 10) (record { answer = sealedAt (d .clock); entries = finishEntries N (placeOf s q) (d .clock) (c ∷ cs) }))
+      go true = refusing N M img d h H (finish len s) 10 refl
+      go false = sealed-done l b q (c ∷ cs) e (omega arith)
+  finish-at l (sealed n q cs) e = refusing N M img d h H (finish len s) 6 refl
+  finish-at l (published f q cs) e = refusing N M img d h H (finish len s) 6 refl
+
+  pub finish-done : Done N M img d h (finish len s) (dueOf N M (view N img .number) d h (finish len s))
+  finish-done =
+      past-room N M img d h H (finish len s) len _ (past-session N M img d h H (finish len s) s _ (λ l. finish-at l (d .session s) refl))

@@ -1,0 +1,182 @@
+-- What is due by document 01's rules: from the ledger alone, what a call tells and the entries that it stores, in a store of N records and
+-- M sessions.
+use Prim.Native.Nat.{ℕ, zero, suc, _+_, _*_}
+use mathlib.Core.Bool.{Bool, true, false, cond}
+use mathlib.Core.Option.{Option, none, some}
+use mathlib.Core.List.{List, [], _∷_, _++_}
+use lib.ListN.{length, getD}
+use lib.Dec.{eqb, leb, ltb}
+use Rattle.layout.specs.Entries.{Entry, store, fence, stores}
+use Rattle.layout.specs.Image.{placeOf, slotAt}
+use Rattle.layout.specs.Told.{Told, refused, refusal, ok, start, own, copied, home, empty, sealedAt, endedAt, wait, nothing, held, cleared}
+use Rattle.history.specs.Batch.{batch, laid}
+use Rattle.history.specs.Call.{Call, begin, read, write, abandon, finish, publish, settle, reclaim}
+use Rattle.history.specs.Desk.{Copy, find, writes, flat, Session, idle, active, sealed, published, Desk, holder, firstOf, before}
+use Rattle.history.specs.History.{History, viewAt}
+use Rattle.history.specs.Ledger.{Ledger, candidate}
+
+pub record Due : Type 0 where
+  pub answer : Told
+  pub entries : List Entry
+
+-- told, with nothing stored
+abbrev pub say : Told → Due
+say t = record { answer = t; entries = [] }
+
+abbrev pub refuse : ℕ → Due
+refuse k = say (refusal k)
+
+-- L: the clock at which finish is refused
+unfoldable pub clockLimit : ℕ
+clockLimit = 4_611_686_018_427_387_904
+
+-- begin: idle becomes active; start is the clock
+abbrev pub begins : ℕ → Session → Due
+begins clock idle = say (start clock)
+begins clock (active b q cs) = refuse 6
+begins clock (sealed n q cs) = refuse 6
+begins clock (published e q cs) = refuse 6
+
+-- four words of a list: a record as it stands at home
+abbrev pub fourWords : List ℕ → List ℕ
+fourWords ws = getD ws 0 0 ∷ getD ws 1 0 ∷ getD ws 2 0 ∷ getD ws 3 0 ∷ []
+
+-- published, with an end at most this start
+abbrev pub shownTo : ℕ → Session → Bool
+shownTo b idle = false
+shownTo b (active c q cs) = false
+shownTo b (sealed n q cs) = false
+shownTo b (published e q cs) = leb e b
+
+abbrev pub shownBy : ℕ → Desk → Option ℕ → Bool
+shownBy b d none = false
+shownBy b d (some t) = shownTo b (d .session t)
+
+-- a read that is not own gives the history's view at the reader's start: from the holder's copy or from the home record
+abbrev pub readsOther : Bool → List ℕ → Due
+readsOther true ws = say (copied ws)
+readsOther false ws = say (home (fourWords ws))
+
+abbrev pub readsOwn : Option (List ℕ) → Due → Due
+readsOwn none other = other
+readsOwn (some ws) other = say (own ws)
+
+abbrev pub reads : ℕ → Desk → History → ℕ → Session → Due
+reads M d h r idle = refuse 6
+reads M d h r (active b q cs) = readsOwn (find r cs) (readsOther (shownBy b d (holder M d r)) (viewAt h b r))
+reads M d h r (sealed n q cs) = refuse 6
+reads M d h r (published e q cs) = refuse 6
+
+-- the first copy: 9 where both slots are occupied
+abbrev pub reserves : (ℕ → ℕ) → ℕ → Due
+reserves f s = cond (eqb (f (placeOf s 0)) 0) (say ok) (cond (eqb (f (placeOf s 1)) 0) (say ok) (refuse 9))
+
+-- 8 the fifth record
+abbrev pub adds : (ℕ → ℕ) → ℕ → List Copy → Due
+adds f s [] = reserves f s
+adds f s (c ∷ cs) = cond (leb 4 (length (c ∷ cs))) (refuse 8) (say ok)
+
+-- 7 exactly when another transaction holds the record
+abbrev pub writesHeld : (ℕ → ℕ) → ℕ → List Copy → Option ℕ → Due
+writesHeld f s cs (some t) = say (refused 7 t)
+writesHeld f s cs none = adds f s cs
+
+-- an own copy is overwritten
+abbrev pub writesOwn : Option (List ℕ) → Due → Due
+writesOwn none other = other
+writesOwn (some old) other = say ok
+
+abbrev pub wrote : ℕ → (ℕ → ℕ) → Desk → ℕ → ℕ → Session → Due
+wrote M f d s r idle = refuse 6
+wrote M f d s r (active b q cs) = writesOwn (find r cs) (writesHeld f s cs (holder M d r))
+wrote M f d s r (sealed n q cs) = refuse 6
+wrote M f d s r (published e q cs) = refuse 6
+
+abbrev pub abandons : Session → Due
+abandons idle = refuse 6
+abandons (active b q cs) = say ok
+abandons (sealed n q cs) = refuse 6
+abandons (published e q cs) = refuse 6
+
+-- count and copies, a fence, the persist number, a fence
+abbrev pub logWords : List Copy → List ℕ
+logWords cs = length cs ∷ flat cs
+
+abbrev pub finishEntries : ℕ → ℕ → ℕ → List Copy → List Entry
+finishEntries N p n cs = batch (laid (slotAt N p + 1) (logWords cs)) (slotAt N p) n
+
+-- empty, 10, or sealed with the clock
+abbrev pub sealsCopies : ℕ → ℕ → ℕ → List Copy → Due
+sealsCopies N clock p [] = say empty
+sealsCopies N clock p (c ∷ cs) =
+    cond (leb clockLimit clock) (refuse 10) (record { answer = sealedAt clock; entries = finishEntries N p clock (c ∷ cs) })
+
+abbrev pub finishes : ℕ → ℕ → ℕ → Session → Due
+finishes N clock s idle = refuse 6
+finishes N clock s (active b q cs) = sealsCopies N clock (placeOf s q) cs
+finishes N clock s (sealed n q cs) = refuse 6
+finishes N clock s (published e q cs) = refuse 6
+
+-- end is clock + 1
+abbrev pub publishes : ℕ → Session → Due
+publishes clock idle = refuse 6
+publishes clock (active b q cs) = refuse 6
+publishes clock (sealed n q cs) = say (endedAt (suc clock))
+publishes clock (published e q cs) = refuse 6
+
+-- wait with the lowest session in the way; otherwise the copies go home and a fence follows
+abbrev pub settleEntries : List Copy → List Entry
+settleEntries cs = stores (writes cs) ++ fence ∷ []
+
+abbrev pub waits : List Copy → Option ℕ → Due
+waits cs (some t) = say (wait t)
+waits cs none = record { answer = ok; entries = settleEntries cs }
+
+abbrev pub settles : ℕ → Desk → Session → Due
+settles M d idle = refuse 6
+settles M d (active b q cs) = refuse 6
+settles M d (sealed n q cs) = refuse 6
+settles M d (published e q cs) = waits cs (firstOf (λ t. before e (d .session t)) M)
+
+-- the smallest persist number of the first k slots, 0 where all are empty
+abbrev pub lesser : ℕ → ℕ → ℕ
+lesser m n = cond (eqb n 0) m (cond (eqb m 0) n (cond (leb m n) m n))
+
+unfoldable pub smallest : (ℕ → ℕ) → ℕ → ℕ
+smallest f zero = 0
+smallest f (suc k) = lesser (smallest f k) (f k)
+
+abbrev pub clearEntries : ℕ → ℕ → List Entry
+clearEntries N p = store (slotAt N p) 0 ∷ fence ∷ []
+
+-- none, held with the smallest number of the image, or cleared with the number that the slot had
+abbrev pub clears : ℕ → (ℕ → ℕ) → ℕ → ℕ → Due
+clears N f p least = cond (ltb least (f p)) (say (held least)) (record { answer = cleared (f p); entries = clearEntries N p })
+
+abbrev pub reclaims : ℕ → ℕ → (ℕ → ℕ) → ℕ → Option ℕ → Due
+reclaims N M f s none = say nothing
+reclaims N M f s (some q) = clears N f (placeOf s q) (smallest f (2 * M))
+
+-- 3 trace under 48 words, 4 session at or above M, 5 record at or above N
+abbrev pub ifRoom : ℕ → Due → Due
+ifRoom len y = cond (leb 48 len) y (refuse 3)
+
+abbrev pub ifSession : ℕ → ℕ → Due → Due
+ifSession M s y = cond (leb M s) (refuse 4) y
+
+abbrev pub ifRecord : ℕ → ℕ → Due → Due
+ifRecord N r y = cond (leb N r) (refuse 5) y
+
+-- of the slots' numbers, the desk and the history
+abbrev pub dueOf : ℕ → ℕ → (ℕ → ℕ) → Desk → History → Call → Due
+dueOf N M f d h (begin s) = ifSession M s (begins (d .clock) (d .session s))
+dueOf N M f d h (read s r) = ifSession M s (ifRecord N r (reads M d h r (d .session s)))
+dueOf N M f d h (write s r ws) = ifSession M s (ifRecord N r (wrote M f d s r (d .session s)))
+dueOf N M f d h (abandon s) = ifSession M s (abandons (d .session s))
+dueOf N M f d h (finish len s) = ifRoom len (ifSession M s (finishes N (d .clock) s (d .session s)))
+dueOf N M f d h (publish s) = ifSession M s (publishes (d .clock) (d .session s))
+dueOf N M f d h (settle len s) = ifRoom len (ifSession M s (settles M d (d .session s)))
+dueOf N M f d h (reclaim len s) = ifRoom len (ifSession M s (reclaims N M f s (candidate f s (d .session s))))
+
+unfoldable pub due : ℕ → ℕ → Ledger → Call → Due
+due N M L c = dueOf N M (L .number) (L .desk) (L .history) c
