@@ -17,7 +17,7 @@ use Rattle.layout.specs.Entries.{Entry, store, fence, made, endsFenced}
 use Rattle.layout.specs.Homes.{homesWrites}
 use Rattle.layout.specs.Image.{shapedB, occupiedB, slotAt, homeWords}
 use Rattle.layout.specs.Lay.{emptyImage}
-use Rattle.layout.specs.Told.{Told, refused, result, ok, start, home, wait, held, clean, replayed, codeOf, isRefusal, wordsOf}
+use Rattle.layout.specs.Told.{Told, ok, start, home, wait, held, clean, replayed, codeTold, isRefusal, wordsOf}
 use Rattle.layout.proofs.Says.{by-test}
 use Rattle.journal.specs.Log.{bodyWrites, unsoundB, sharedB}
 use Rattle.journal.specs.Oldest.{oldestOf}
@@ -148,13 +148,9 @@ module _ (R : Rules) where
 
 -- ---- demand 2
 
--- a number for what is told, and its first word
-abbrev coded : Told → ℕ
-coded (refused k v) = 0
-coded (result x n ws) = codeOf x
-
-unlike-told : {t u : Told} → t ≡ u → eqb (coded t) (coded u) ≡ false → ⊥
-unlike-told e b = eqb-false _ _ b (ap coded e)
+-- two that differ in their result, and two that differ in their first word
+unlike-told : {t u : Told} → t ≡ u → eqb (codeTold t) (codeTold u) ≡ false → ⊥
+unlike-told e b = eqb-false _ _ b (ap codeTold e)
 
 unlike-words : {t u : Told} → t ≡ u → eqb (getD (wordsOf t) 0 0) (getD (wordsOf u) 0 0) ≡ false → ⊥
 unlike-words e b = eqb-false _ _ b (ap (λ (t : Told). getD (wordsOf t) 0 0) e)

@@ -17,7 +17,7 @@ use Rattle.layout.specs.Checks.{first, answered}
 use Rattle.layout.proofs.ChecksLaws.{answered-zero}
 use Rattle.layout.specs.Entries.{Entry, made, endsFenced}
 use Rattle.layout.specs.Image.{recordsOf, sessionsOf, shapedB, slotWord, occupiedAt}
-use Rattle.layout.specs.Told.{Told, refusal, clean, replayed, numberOf, codeOf, result, refused}
+use Rattle.layout.specs.Told.{Told, refusal, clean, replayed, codeTold}
 use Rattle.journal.specs.Log.{unsoundB, countOf, recOf}
 use Rattle.journal.specs.Oldest.{oldestOf}
 use Rattle.journal.proofs.Least.{oldest-is}
@@ -144,11 +144,6 @@ module _ (N M : ℕ) (img : List ℕ) (len : ℕ) (w : Whole N M img) (g : Good 
   unfolding recover
   recover-same = entries-at (oldest (view N img) (2 * M)) (best (view N img) (2 * M))
 
--- the number of a result
-abbrev coded : Told → ℕ
-coded (refused k v) = 0
-coded (result x n ws) = codeOf x
-
 -- what recover tells where the oldest log stands in slot o
 abbrev pub toldAt : State → Option ℕ → Told
 toldAt s none = clean
@@ -185,10 +180,10 @@ module _ (N M : ℕ) (img : List ℕ) (len : ℕ) (w : Whole N M img) (g : Good 
       by-slot room (some p) b = absurd (not-clean (sym (tells-at room (some p) b) ∙ e))
         where
           not-clean : {p : ℕ} → replayed p ≡ clean → ⊥
-          not-clean e = let z : _≡_ {A = ℕ} 33 32 = ap coded e in omega arith
+          not-clean e = let z : _≡_ {A = ℕ} 33 32 = ap codeTold e in omega arith
 
       by-room : Dec (len < 48) → Clean (2 * M) (view N img) × (recoverEntries img len ≡ [])
-      by-room (yes l) = absurd (let z : _≡_ {A = ℕ} 3 0 = ap numberOf (sym (short-tells l) ∙ e) in omega arith)
+      by-room (yes l) = absurd (let z : _≡_ {A = ℕ} 0 32 = ap codeTold (sym (short-tells l) ∙ e) in omega arith)
       by-room (no n) = by-slot (omega arith) (oldest (view N img) (2 * M)) (best (view N img) (2 * M))
 
 -- ---- what calls of recover leave

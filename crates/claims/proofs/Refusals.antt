@@ -3,6 +3,7 @@ use Prim.Native.Nat.{ℕ, zero, suc, _-_}
 use mathlib.Core.Bool.{Bool, true, false, _&&_, not, cond}
 use mathlib.Core.Path.{_≡_, refl, sym, ap, _∙_}
 use mathlib.Core.List.{List, [], _∷_}
+use native.Mathlib.Omega.{arith}
 use lib.Dec.{eqb, ltb}
 use lib.ListN.{length}
 use borrow.Author.Tests.{eqb-true, not-true}
@@ -11,7 +12,7 @@ use Rattle.layout.proofs.ChecksLaws.{answered-not}
 use Rattle.layout.specs.Entries.{Entry, made, listed}
 use Rattle.layout.specs.Lay.{layFault, layAnswer, laidImage, emptyImage}
 use Rattle.layout.specs.Tidy.{Tidy}
-use Rattle.layout.specs.Told.{Told, refused, refusal, numberOf, valueOf, layTold}
+use Rattle.layout.specs.Told.{Told, refused, refusal, isRefusal, layTold}
 use Rattle.layout.specs.declared.laying.LayAnswer.{LayAnswer}
 use Rattle.layout.specs.declared.laying.LayAnswer.the-variants.{Refused as LayRefused, Laid}
 use Rattle.layout.proofs.Says.{by-test, says-and, says-itself}
@@ -50,25 +51,25 @@ use Rattle.claims.proofs.Rows.{desk-row, lay-row, open-row, recover-row
 use Rattle.claims.specs.Rules.{storeRules}
 use Rattle.claims.specs.Refusals.{Cause, number, holds, Given, firstOf, recoverRow, row, ofImage, given, only, TurnedAway, StoresNothing, Refusals}
 
--- a call whose fault is k: its refusal by k tells k and this value and leaves what is to be kept, and past its checks the number is 0
+-- a call whose fault is k: its refusal by k tells k and this value and leaves what is to be kept, and past its checks it refuses nothing
 turned : {A B : Type 0} (told : B → Told) (left : B → A) (refusal : ℕ → B) (done : B) {fault k value : ℕ} {kept : A} → fault ≡ k
-    → told (refusal k) ≡ refused k value → left (refusal k) ≡ kept → numberOf (told done) ≡ 0
+    → told (refusal k) ≡ refused k value → left (refusal k) ≡ kept → isRefusal (told done) ≡ false
     → TurnedAway (told (answered fault refusal done)) k value (left (answered fault refusal done)) kept
 unfolding answered
 turned told left refusal done {fault} {k} {value} {kept} e t l z = rw e (go k t l)
   where
     go : (k : ℕ) → told (refusal k) ≡ refused k value → left (refusal k) ≡ kept
         → TurnedAway (told (answered k refusal done)) k value (left (answered k refusal done)) kept
-    go zero t l = record { number-is = z; tells = λ n. absurd (n refl); leaves = λ n. absurd (n refl) }
-    go (suc k) t l = record { number-is = ap numberOf t; tells = λ n. ap valueOf t; leaves = λ n. l }
+    go zero t l = record { refuses = λ n. absurd (n refl); passes = λ n. z; leaves = λ n. absurd (n refl) }
+    go (suc k) t l = record { refuses = λ n. t; passes = λ n. absurd (omega (arith, n)); leaves = λ n. l }
 
 -- something else is left
 leaving : {A B : Type 0} {told : Told} {k value : ℕ} {x y : A} {left kept : B}
     → TurnedAway told k value x y → ((k ≡ 0 → ⊥) → left ≡ kept) → TurnedAway told k value left kept
-leaving t l = record { number-is = t .number-is; tells = t .tells; leaves = l }
+leaving t l = record { refuses = t .refuses; passes = t .passes; leaves = l }
 
 -- one of two results
-either : {B : Type 0} (told : B → Told) (b : Bool) (x y : B) → numberOf (told x) ≡ 0 → numberOf (told y) ≡ 0 → numberOf (told (cond b x y)) ≡ 0
+either : {B : Type 0} (told : B → Told) (b : Bool) (x y : B) → isRefusal (told x) ≡ false → isRefusal (told y) ≡ false → isRefusal (told (cond b x y)) ≡ false
 either told true x y p q = p
 either told false x y p q = q
 
@@ -102,7 +103,7 @@ CallTurned img d c told left =
 -- a session call without refusal 7: its refusals have no value and leave the desk
 plain : {B : Type 0} (img : List ℕ) (d : Desk) (c : Call) (told : B → Told) (left : B → Desk) (refusing : ℕ → B) (done : B) {fault : ℕ}
     → fault ≡ firstOf (row c) (given img d c) → sparing (row c) ≡ true
-    → ((k : ℕ) → told (refusing k) ≡ refusal k) → ((k : ℕ) → left (refusing k) ≡ d) → numberOf (told done) ≡ 0
+    → ((k : ℕ) → told (refusing k) ≡ refusal k) → ((k : ℕ) → left (refusing k) ≡ d) → isRefusal (told done) ≡ false
     → CallTurned img d c (told (answered fault refusing done)) (left (answered fault refusing done))
 plain img d c told left refusing done e free t l z =
     let k = firstOf (row c) (given img d c) in

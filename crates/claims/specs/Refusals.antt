@@ -11,7 +11,7 @@ use Rattle.layout.specs.Below.{anyBelow, lowest}
 use Rattle.layout.specs.Entries.{Entry, made, listed}
 use Rattle.layout.specs.Image.{recordsOf, sessionsOf, inRange, sizeOf, shapedB, placeOf, slotWord, occupiedAt, occupiedB}
 use Rattle.layout.specs.Lay.{layAnswer, laidImage}
-use Rattle.layout.specs.Told.{Told, numberOf, valueOf, layTold}
+use Rattle.layout.specs.Told.{Told, refused, isRefusal, layTold}
 use Rattle.journal.specs.Log.{unsoundB, tiedB}
 use Rattle.desk.specs.Coherent.{limit, coherentB}
 use Rattle.desk.specs.Desk.{sessionAt, markAt, isIdle, isActive, isSealed, isPublished, dropped}
@@ -169,11 +169,11 @@ given img d (reclaim len s) = ofCall img d len s 0 (λ p. true)
 abbrev pub only : {A : Type 0} → ℕ → A → A → ℕ → A
 only number this other k = cond (eqb k number) this other
 
--- what is told has this number; where it is one of a refusal, with this value, and this is left as is to be
-pub record TurnedAway {A : Type 0} (told : Told) (refusal value : ℕ) (left kept : A) : Type 0 where
-  pub number-is : numberOf told ≡ refusal
-  pub tells : (refusal ≡ 0 → ⊥) → valueOf told ≡ value
-  pub leaves : (refusal ≡ 0 → ⊥) → left ≡ kept
+-- with this number, the first of the row: the call tells it with this value, and leaves what is to be kept; with 0 it is not turned away
+pub record TurnedAway {A : Type 0} (told : Told) (number value : ℕ) (left kept : A) : Type 0 where
+  pub refuses : (number ≡ 0 → ⊥) → told ≡ refused number value
+  pub passes : number ≡ 0 → isRefusal told ≡ false
+  pub leaves : (number ≡ 0 → ⊥) → left ≡ kept
 
 -- of a count of entries and a list: nothing is stored or listed, so that image and trace are as they were
 pub record StoresNothing (count : ℕ) (es : List Entry) : Type 0 where

@@ -94,10 +94,14 @@ codeOf Cleared = 31
 codeOf Clean = 32
 codeOf Replayed = 33
 
+-- the same of what is told, 0 for a refusal
+abbrev pub codeTold : Told → ℕ
+codeTold (refused k v) = 0
+codeTold (result x n ws) = codeOf x
+
 -- it is this result
 abbrev pub is : Result → Told → Bool
-is x (refused k v) = false
-is x (result y n ws) = eqb (codeOf y) (codeOf x)
+is x t = eqb (codeTold t) (codeOf x)
 
 -- it is a refusal
 abbrev pub isRefusal : Told → Bool
@@ -108,11 +112,6 @@ isRefusal (result x n ws) = false
 abbrev pub refusedBy : ℕ → Told → Bool
 refusedBy k (refused j v) = eqb j k
 refusedBy k (result x n ws) = false
-
--- the refusal's number, 0 where there is none
-abbrev pub numberOf : Told → ℕ
-numberOf (refused k v) = k
-numberOf (result x n ws) = 0
 
 -- the number or session or place that goes with it
 abbrev pub valueOf : Told → ℕ
