@@ -24,7 +24,7 @@ use Rattle.desk.specs.Coherent.{placeHas}
 use Rattle.desk.proofs.Facts.{Copies, CountIn, Coherent}
 use Rattle.snapshot.specs.Own.{ownPlace}
 use Rattle.snapshot.proofs.OwnPlace.{own-found}
-use Rattle.history.specs.Desk.{Copy, find, put, Session as Txn, idle, active, sealed, published, copies, Desk as Txns, upd, withSession, found, firstOf, holder}
+use Rattle.history.specs.Desk.{Copy, find, put, Session as Txn, idle, active, sealed, published, copies, Desk as Txns, upd, withSession, found, holder}
 use Rattle.history.proofs.Copies.{Mem, Fresh, Found, find?, upd-same, upd-other, Lowest, firstOf?}
 
 -- the first k copy places, as a list of copies

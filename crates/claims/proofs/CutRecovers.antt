@@ -1,25 +1,23 @@
 -- Wherever power fails, recovery ends clean with the history's records.
-use Prim.Native.Nat.{ℕ, _-_, _*_, _/_, _%_, _≤_, _<_}
+use Prim.Native.Nat.{ℕ, _*_, _<_}
 use mathlib.Core.Path.{_≡_, refl, sym, ap, _∙_, subst}
-use mathlib.Core.Bool.{Bool, not, true, false}
+use mathlib.Core.Bool.{Bool, false}
 use mathlib.Core.List.{List, [], _∷_, _++_}
 use native.Mathlib.Omega.{arith}
 use native.Mathlib.Nat.{le-refl, add-zero}
 use lib.ListN.{getD}
-use borrow.Author.Tests.{eq-eqb}
 use Rattle.layout.specs.Below.{anyBelow}
-use Rattle.layout.specs.Checks.{unless, first, answered}
+use Rattle.layout.specs.Checks.{first, answered}
 use Rattle.layout.specs.Crash.{crashed as crash}
 use Rattle.layout.specs.Entries.{made}
 use Rattle.layout.specs.Image.{recordsOf, sessionsOf, homeWords, slotAt, persistAt, occupiedAt, occupiedB}
-use Rattle.layout.specs.Told.{Told, ok, clean}
+use Rattle.layout.specs.Told.{ok, clean}
 use Rattle.layout.proofs.Says.{says-ne, says-any, says-not}
 use Rattle.recovery.specs.Open.{openFault, openReply}
-use Rattle.recovery.specs.Recover.{recoverEntries}
 use Rattle.history.specs.Call.{Call}
 use Rattle.history.specs.Cut.{feedCut}
 use Rattle.history.specs.Desk.{spot}
-use Rattle.history.specs.Due.{fourWords, due}
+use Rattle.history.specs.Due.{fourWords}
 use Rattle.history.specs.History.{History, recordOf}
 use Rattle.history.specs.Layout.{Home, view}
 use Rattle.history.specs.Log.{Final, Clean, busy}

@@ -14,7 +14,7 @@ use Rattle.layout.specs.Told.{Told, ok, is, Copy, Home}
 use Rattle.history.specs.Call.{Call, read}
 use Rattle.history.specs.Cut.{feedCut}
 use Rattle.history.specs.Desk.{find, Session, idle, active, sealed, published, holder}
-use Rattle.history.specs.Due.{fourWords, shownBy, readsOther, readsOwn, reads, refuse, dueOf, due}
+use Rattle.history.specs.Due.{fourWords, shownBy, readsOther, readsOwn, reads, refuse, due}
 use Rattle.history.specs.History.{History, viewAt}
 use Rattle.history.specs.Layout.{view}
 use Rattle.history.specs.Ledger.{Ledger}

@@ -4,13 +4,12 @@ use mathlib.Core.Path.{_≡_, refl, sym, _∙_}
 use mathlib.Core.Bool.{true, cond}
 use mathlib.Core.List.{List, []}
 use native.Mathlib.Omega.{arith}
-use lib.ListN.{length, set}
+use lib.ListN.{length}
 use lib.Dec.{leb, ltb}
 use borrow.Author.Tests.{lt-ltb, le-ltb, leb-true, leb-false}
 use Rattle.layout.specs.Checks.{unless, first}
 use Rattle.layout.proofs.Says.{by-test}
-use Rattle.desk.specs.Desk.{sessionAt, markAt, idleSession, unmarked, dropped}
-use Rattle.desk.specs.Coherent.{coherentB}
+use Rattle.desk.specs.Desk.{sessionAt, markAt, idleSession, changed, unmarked, dropped}
 use Rattle.desk.specs.declared.state.Session.{Session}
 use Rattle.desk.specs.declared.state.Desk.{Desk}
 use Rattle.desk.proofs.Facts.{says-coherent}
@@ -62,7 +61,7 @@ module _ (c : Call) (f : ℕ → ℕ) (d : Desk) (t : Told) where
 
   -- told, and another entry for one session
   pub entered : (s : ℕ) (e : Session) (hs : List ℕ) (x : Txn) → s < length (d .sessions) → pack e ≡ x → noteDesk c t f (abs d) ≡ withSession s x (abs d)
-      → Sim c f d t [] (record { clock = d .clock; n = d .n; m = d .m; holders = hs; sessions = set (d .sessions) s e }) (say t)
+      → Sim c f d t [] (changed d s e (d .clock) hs) (say t)
   entered s e hs x l p n =
       record { answers = refl; stored = refl; desk = (rw (← p) (abs-put d (d .clock) (d .n) (d .m) s e hs l)) ∙ sym n }
 

@@ -1,6 +1,6 @@
 -- The impostors fail on short computed runs. Where an impostor does what the store does, its run is the one that is due, which is computed
 -- from the ledger alone.
-use Prim.Native.Nat.{ℕ, zero, suc, _+_, _<_}
+use Prim.Native.Nat.{ℕ, zero, suc, _<_}
 use mathlib.Core.Bool.{Bool, true, false, cond, _&&_, not, false≢true}
 use mathlib.Core.List.{List, [], _∷_, _++_, append-nil, append-assoc}
 use mathlib.Core.Option.{some}
@@ -11,11 +11,11 @@ use lib.ListN.{length, getD, take, set}
 use lib.Dec.{eqb, ltb}
 use Rattle.layout.proofs.BelowLaws.{lowest-some}
 use Rattle.layout.specs.Below.{allBelow, anyBelow, countBelow, lowest}
-use Rattle.layout.specs.Checks.{unless, first, answered}
+use Rattle.layout.specs.Checks.{first, answered}
 use Rattle.layout.specs.Crash.{arrived}
 use Rattle.layout.specs.Entries.{Entry, store, fence, made, endsFenced}
 use Rattle.layout.specs.Homes.{homesWrites}
-use Rattle.layout.specs.Image.{shapedB, occupiedB, slotAt, homeWords}
+use Rattle.layout.specs.Image.{shapedB, occupiedB, slotAt}
 use Rattle.layout.specs.Lay.{emptyImage}
 use Rattle.layout.specs.Told.{Told, ok, start, home, wait, held, clean, replayed, codeTold, isRefusal, wordsOf}
 use Rattle.layout.proofs.Says.{by-test}
@@ -28,19 +28,19 @@ use Rattle.desk.specs.declared.state.Desk.{Desk}
 use Rattle.layout.specs.Tidy.{Tidy}
 use Rattle.commit.specs.Finish.{finishFault}
 use Rattle.commit.specs.Reclaim.{clearEntries}
-use Rattle.recovery.specs.Open.{openFault, openReply, freshDesk}
+use Rattle.recovery.specs.Open.{openFault, openReply}
 use Rattle.recovery.specs.Recover.{unsoundPlace, tiedBelow, tiesB, recoverFault, firstLog, recoverRefused, recoverReply, recoverEntries}
-use Rattle.history.specs.Call.{Call, begin, read, write, abandon, finish, publish, settle, reclaim}
+use Rattle.history.specs.Call.{Call, begin, read, write, finish, publish, settle, reclaim}
 use Rattle.history.specs.Desk.{Copy, idle, sealed, Desk as Txns, upd, firstOf, holder}
-use Rattle.history.specs.Due.{fourWords, clockLimit, smallest, due}
+use Rattle.history.specs.Due.{clockLimit, smallest, due}
 use Rattle.history.specs.Cut.{feedCut}
-use Rattle.history.specs.History.{History, feed, recordOf}
+use Rattle.history.specs.History.{History, feed}
 use Rattle.history.specs.Ledger.{Ledger, note}
-use Rattle.claims.specs.Rules.{Reply, Rules, tells, storeRules}
+use Rattle.claims.specs.Rules.{Reply, Rules, storeRules}
 use Rattle.claims.specs.Run.{World, opened, openLedger, reply, step, run, stored}
 use Rattle.claims.specs.Recovery.{replays, afterCalls, afterStop, afterAttempts, afterWhole, Ends}
 use Rattle.claims.specs.Demands.{Demand2, Demand3, Cut, during, cutImage, cutHistory, Recovered}
-use Rattle.claims.specs.Impostors.{Impostors, Change, kindOf, past, storing, telling, relisting, zeroing, miscounting, clearingEarly, waitingForAll, showingSealed, lowestLog, busyOther, heldSealed, sealedCopy, turnsAway, waitsAtOnce, holdsAtOnce, readsZeros, zeroed, doesNothing, storesNothing, saysClean, clearing, clearsOthers, withoutLast, unfencedAt, replaysOne, miscounts, unfenced, oneGroup, sessionOrder, clearsEarly, waitsForAll, showsSealed}
+use Rattle.claims.specs.Impostors.{Impostors, Change, kindOf, past, telling, relisting, zeroing, miscounting, clearingEarly, waitingForAll, showingSealed, busyOther, heldSealed, sealedCopy, turnsAway, waitsAtOnce, holdsAtOnce, readsZeros, zeroed, doesNothing, storesNothing, saysClean, clearing, clearsOthers, withoutLast, unfencedAt, replaysOne, miscounts, unfenced, oneGroup, sessionOrder, clearsEarly, waitsForAll, showsSealed}
 use Rattle.claims.proofs.Abstraction.{txn-of, copiesOf, marked}
 use Rattle.claims.proofs.Entering.{holder-named}
 use Rattle.claims.proofs.Along.{Along, same, step-along, run-along, opened-along, call-fenced}

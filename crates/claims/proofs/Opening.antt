@@ -13,7 +13,7 @@ use Rattle.layout.specs.Below.{anyBelow}
 use Rattle.layout.proofs.BelowLaws.{any-finds}
 use Rattle.layout.specs.Checks.{unless, answered}
 use Rattle.layout.proofs.ChecksLaws.{first-both, unless-zero, answered-zero}
-use Rattle.layout.specs.Image.{word, slotAt, recordsOf, sessionsOf, shapedB, homeWords, persistAt, occupiedAt, occupiedB}
+use Rattle.layout.specs.Image.{slotAt, recordsOf, sessionsOf, shapedB, homeWords, persistAt, occupiedAt, occupiedB}
 use Rattle.layout.proofs.Says.{test}
 use Rattle.layout.proofs.Shape.{Shaped, says-shaped}
 use Rattle.desk.specs.Desk.{noSession, idleSession}

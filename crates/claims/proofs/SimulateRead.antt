@@ -1,19 +1,14 @@
 -- Read gives what is due: the words that it finds are the history's.
-use Prim.Native.Nat.{ℕ, zero, suc, _+_, _-_, _≤_, _<_}
+use Prim.Native.Nat.{ℕ, zero, suc, _-_, _<_}
 use mathlib.Core.Path.{_≡_, refl, sym, _∙_}
 use mathlib.Core.Bool.{Bool, true, false, cond, not, _&&_}
-use mathlib.Core.Option.{none}
-use mathlib.Core.List.{List, [], _∷_}
+use mathlib.Core.List.{List, []}
 use native.Mathlib.Omega.{arith}
-use native.Mathlib.Numerals.{add-one, add-two, add-three}
-use lib.ListN.{length, take, drop}
-use lib.Seq.{drop-cons}
 use lib.Dec.{leb, ltb, eqb}
 use borrow.Author.Tests.{leb-false, ltb-true, ltb-false, ne-eqb}
 use Rattle.layout.specs.Checks.{unless, first, answered}
-use Rattle.layout.specs.Image.{word, homeAt, homeWords}
+use Rattle.layout.specs.Image.{homeWords}
 use Rattle.layout.proofs.Says.{by-test}
-use Rattle.layout.proofs.Shape.{says-shaped}
 use Rattle.desk.specs.Desk.{sessionAt, markAt, copyAt, isActive}
 use Rattle.desk.specs.declared.state.Phase.{Phase}
 use Rattle.desk.specs.declared.state.Phase.the-variants.{Idle, Active, Sealed, Published}
@@ -28,8 +23,8 @@ use Rattle.snapshot.proofs.OwnPlace.{own-found}
 use Rattle.layout.specs.Told.{Told, refusal, own}
 use Rattle.snapshot.specs.Told.{readTold}
 use Rattle.history.specs.Call.{read}
-use Rattle.history.specs.Desk.{find, Desk as Txns, active, holder}
-use Rattle.history.specs.Due.{Due, refuse, say, shownBy, readsOther, readsOwn, reads, dueOf}
+use Rattle.history.specs.Desk.{find, holder}
+use Rattle.history.specs.Due.{Due, refuse, shownBy, readsOther, readsOwn, reads, dueOf}
 use Rattle.history.specs.History.{History, viewAt}
 use Rattle.history.proofs.Copies.{find-fresh}
 use Rattle.history.proofs.Invariant.{shown}

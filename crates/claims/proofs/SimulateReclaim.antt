@@ -1,5 +1,5 @@
 -- Reclaim gives what is due.
-use Prim.Native.Nat.{ℕ, zero, suc, _*_, _≤_, _<_}
+use Prim.Native.Nat.{ℕ, zero, suc, _*_, _<_}
 use mathlib.Core.Path.{_≡_, refl, sym, _∙_}
 use mathlib.Core.Logic.{_≢_}
 use mathlib.Core.Bool.{Bool, true, false, not, _&&_, _||_, cond}
@@ -28,7 +28,7 @@ use Rattle.layout.specs.Told.{nothing, held}
 use Rattle.commit.specs.Told.{reclaimTold}
 use Rattle.history.specs.Call.{reclaim}
 use Rattle.history.specs.Desk.{Copy}
-use Rattle.history.specs.Due.{smallest, clears, reclaims, dueOf}
+use Rattle.history.specs.Due.{smallest, reclaims, dueOf}
 use Rattle.history.specs.History.{History}
 use Rattle.history.specs.Layout.{view}
 use Rattle.history.specs.Ledger.{free, choice, candidate}

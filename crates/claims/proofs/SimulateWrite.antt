@@ -27,7 +27,7 @@ use Rattle.layout.specs.Image.{placeOf}
 use Rattle.layout.specs.Told.{refused, refusal, ok}
 use Rattle.snapshot.specs.Told.{writeTold}
 use Rattle.history.specs.Call.{write}
-use Rattle.history.specs.Desk.{Copy, find, put, active, Desk as Txns, withSession, holder}
+use Rattle.history.specs.Desk.{Copy, find, put, active, withSession, holder}
 use Rattle.history.specs.Due.{Due, say, refuse, adds, writesHeld, writesOwn, wrote, dueOf}
 use Rattle.history.specs.History.{History}
 use Rattle.history.specs.Layout.{view}

@@ -13,10 +13,10 @@ use lib.Seq.{getD-set-same, getD-set-other, set-getD}
 use borrow.Author.Tests.{eqb-true}
 use Rattle.layout.specs.Below.{countBelow}
 use Rattle.layout.proofs.BelowLaws.{count-most}
-use Rattle.layout.specs.Checks.{unless, first}
+use Rattle.layout.specs.Checks.{unless}
 use Rattle.layout.proofs.ChecksLaws.{first-both, unless-zero}
 use Rattle.layout.proofs.Says.{says-lt, says-le, says-or, by-test, by-case}
-use Rattle.desk.specs.Desk.{noCopy, noSession, sessionAt, markAt, isIdle, isActive, isSealed, idleSession, withPhase, putSession, unmarked, dropped}
+use Rattle.desk.specs.Desk.{noCopy, noSession, sessionAt, markAt, isIdle, isActive, isSealed, idleSession, withPhase, changed, putSession, unmarked, dropped}
 use Rattle.desk.specs.Coherent.{limit, sealedAt}
 use Rattle.desk.specs.declared.state.Phase.{Phase}
 use Rattle.desk.specs.declared.state.RecordCopy.{RecordCopy}
@@ -68,10 +68,6 @@ count-changed p q i same (suc n) l =
     (λ ne. let c = count-changed p q i same n (omega arith) in
     let a = ap adds (same n (λ z. ne (sym z))) in
     omega arith)
-
--- the desk with another entry for session s, at this clock and with these marks
-abbrev pub changed : Desk → ℕ → Session → ℕ → List ℕ → Desk
-changed d s e clock holders = record { clock = clock; n = d .n; m = d .m; holders = holders; sessions = set (d .sessions) s e }
 
 -- what is asked of such a change: the clock is not set back, and with the number of sealed sessions does not pass its limit; the entry is in order;
 -- the marks of session s are those of its copies, and the marks of the others are as they were

@@ -1,6 +1,6 @@
 -- Every call keeps the desk steady.
 use Prim.Native.Nat.{ℕ, zero, suc, _+_, _<_, _≤_}
-use mathlib.Core.Bool.{true, _&&_}
+use mathlib.Core.Bool.{true}
 use mathlib.Core.List.{List}
 use mathlib.Core.Path.{_≡_, refl, ap}
 use mathlib.Core.Logic.{inl, inr}
@@ -11,10 +11,9 @@ use borrow.Author.Tests.{ltb-true, eqb-true, eqb-false}
 use Rattle.layout.proofs.BelowLaws.{count-most}
 use Rattle.layout.specs.Checks.{unless, first, answered}
 use Rattle.layout.proofs.ChecksLaws.{first-both, unless-zero}
-use Rattle.layout.specs.Image.{recordsOf, sessionsOf, shapedB}
 use Rattle.layout.proofs.Says.{by-test}
 use Rattle.desk.specs.Desk.{noSession, sessionAt, isActive, idleSession, unmarked}
-use Rattle.desk.specs.Coherent.{limit, sealedAt, coherentB}
+use Rattle.desk.specs.Coherent.{limit, sealedAt}
 use Rattle.desk.specs.Begin.{beginFault, beginRefused, begun, beginReply}
 use Rattle.desk.specs.Abandon.{abandonFault, abandonRefused, abandoned, abandonReply}
 use Rattle.desk.specs.Publish.{publishFault, publishRefused, published, publishReply}

@@ -70,9 +70,13 @@ idleSession = record { phase = Idle; count = 0; slot = 0; copies = replicate 4 z
 abbrev pub withPhase : Session → Phase → Session
 withPhase e p = record { phase = p; count = e .count; slot = e .slot; copies = e .copies }
 
--- the desk with another entry for session s
+-- the desk with another entry for session s, another clock and other marks; every call that changes the desk gives one of these
+abbrev pub changed : Desk → ℕ → Session → ℕ → List ℕ → Desk
+changed d s e clock marks = record { clock = clock; n = d .n; m = d .m; holders = marks; sessions = set (d .sessions) s e }
+
+-- another entry alone
 abbrev pub putSession : Desk → ℕ → Session → Desk
-putSession d s e = record { clock = d .clock; n = d .n; m = d .m; holders = d .holders; sessions = set (d .sessions) s e }
+putSession d s e = changed d s e (d .clock) (d .holders)
 
 -- the holder marks with those of the first k copies taken away
 unfoldable pub unmarked : List ℕ → List RecordCopy → ℕ → List ℕ
@@ -81,11 +85,4 @@ unmarked h cs (suc k) = set (unmarked h cs k) (getD cs k noCopy .rec) 0
 
 -- session s is idle, its marks and copies are dropped
 abbrev pub dropped : Desk → ℕ → Desk
-dropped d s =
-    record {
-      clock = d .clock;
-      n = d .n;
-      m = d .m;
-      holders = unmarked (d .holders) (sessionAt d s .copies) (sessionAt d s .count);
-      sessions = set (d .sessions) s idleSession;
-    }
+dropped d s = changed d s idleSession (d .clock) (unmarked (d .holders) (sessionAt d s .copies) (sessionAt d s .count))

@@ -1,8 +1,7 @@
 -- Publish (document 01): sealed only. End is clock + 1 and the clock becomes that. Checks 2, 4, 6.
 use Prim.Native.Nat.{ℕ, _+_}
-use lib.ListN.{set}
 use Rattle.layout.specs.Checks.{unless, first, answered}
-use Rattle.desk.specs.Desk.{sessionAt, isSealed, withPhase}
+use Rattle.desk.specs.Desk.{sessionAt, isSealed, withPhase, changed}
 use Rattle.desk.specs.Entering.{deskFault}
 use Rattle.desk.specs.declared.state.Phase.the-variants.{Published}
 use Rattle.desk.specs.declared.state.Desk.{Desk}
@@ -20,14 +19,7 @@ abbrev pub published : Desk → ℕ → PublishReply
 published d s =
     record {
       answer = End (d .clock + 1);
-      desk =
-          record {
-            clock = d .clock + 1;
-            n = d .n;
-            m = d .m;
-            holders = d .holders;
-            sessions = set (d .sessions) s (withPhase (sessionAt d s) (Published (d .clock + 1)));
-          };
+      desk = changed d s (withPhase (sessionAt d s) (Published (d .clock + 1))) (d .clock + 1) (d .holders);
     }
 
 unfoldable pub publishReply : Desk → ℕ → PublishReply

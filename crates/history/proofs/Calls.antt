@@ -1,6 +1,6 @@
 -- Every call keeps the invariant, and the ledger's slot numbers are the image's.
 use Prim.Native.Nat.{ℕ}
-use mathlib.Core.Path.{_≡_, refl, sym, fun-ext}
+use mathlib.Core.Path.{_≡_, sym, fun-ext}
 use mathlib.Core.List.{List}
 use Rattle.layout.specs.Entries.{made}
 use Rattle.history.specs.Layout.{view}

@@ -22,7 +22,7 @@ use Rattle.history.specs.History.{History, feed, recordOf, viewAt, draft
 use Rattle.history.specs.Ledger.{noteDesk, noteNumber}
 use Rattle.history.proofs.Copies.{upd-other}
 use Rattle.history.proofs.Invariant.{Inv}
-use Rattle.history.proofs.Moves.{Quiet, quiet}
+use Rattle.history.proofs.MoveQuiet.{Quiet, quiet}
 
 pub record Holds (N M : ℕ) (img : List ℕ) (d : Desk) (h : History) : Type 0 where
   pub whole : length img ≡ 4 + 4 * N + 44 * M

@@ -11,7 +11,7 @@ use Rattle.history.specs.Desk.{Session, idle, active, sealed, published,
 use Rattle.history.specs.Due.{begins, dueOf}
 use Rattle.history.specs.History.{History, started}
 use Rattle.history.proofs.Copies.{upd-same, upd-other}
-use Rattle.history.proofs.Moves.{quiet}
+use Rattle.history.proofs.MoveQuiet.{quiet}
 use Rattle.history.proofs.Kept.{Holds, Done, said, refusing, past-session}
 
 module _ (N M : ℕ) (img : List ℕ) (d : Desk) (h : History) (H : Holds N M img d h) (s : ℕ) where

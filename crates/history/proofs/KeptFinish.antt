@@ -26,7 +26,7 @@ use Rattle.history.proofs.Book.{unseen}
 use Rattle.history.proofs.Choice.{neqb→ne}
 use Rattle.history.proofs.Copies.{word-in, upd-same, upd-other}
 use Rattle.history.proofs.Invariant.{Active}
-use Rattle.history.proofs.Moves.{seal, place-in}
+use Rattle.history.proofs.MoveSeal.{seal, place-in}
 use Rattle.history.proofs.Slots.{finish-fit, finish-bodies, finish-numbers, finish-homes, finish-outside, finish-log, finish-sound}
 use Rattle.history.proofs.Kept.{Holds, Crashed, crashed, Done, said, refusing, past-room, past-session, idles}
 

@@ -11,7 +11,7 @@ use Rattle.history.specs.Desk.{Session, idle, active, sealed, published,
 use Rattle.history.specs.Due.{publishes, dueOf}
 use Rattle.history.specs.History.{History}
 use Rattle.history.proofs.Book.{ended-view}
-use Rattle.history.proofs.Moves.{publishing}
+use Rattle.history.proofs.MovePublish.{publishing}
 use Rattle.history.proofs.Kept.{Holds, Done, said, refusing, past-session}
 
 module _ (N M : ℕ) (img : List ℕ) (d : Desk) (h : History) (H : Holds N M img d h) (s : ℕ) where

@@ -27,7 +27,9 @@ use Rattle.history.proofs.Choice.{neqb→ne}
 use Rattle.history.proofs.Copies.{upd-same, upd-other}
 use Rattle.history.proofs.Invariant.{Fine}
 use Rattle.history.proofs.Places.{slotAt-apart}
-use Rattle.history.proofs.Moves.{place-in, place-apart, Homing, homing-final, homing-apart, Off, clearing}
+use Rattle.history.proofs.MoveSeal.{place-in, place-apart}
+use Rattle.history.proofs.MoveSettle.{Homing, homing-final, homing-apart}
+use Rattle.history.proofs.MoveClear.{Off, clearing}
 use Rattle.history.proofs.Slots.{One-word, made-one, cut-one, clear-bodies, clear-emptied, unturned}
 use Rattle.history.proofs.Kept.{Holds, Crashed, crashed, Done, same, past-room, past-session}
 

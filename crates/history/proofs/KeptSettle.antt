@@ -19,7 +19,7 @@ use Rattle.history.specs.Due.{settleEntries, waits, settles, dueOf}
 use Rattle.history.specs.History.{History}
 use Rattle.history.proofs.Copies.{in-word, Lowest, firstOf?}
 use Rattle.history.proofs.Invariant.{Logged, Starts}
-use Rattle.history.proofs.Moves.{Homing, homing-apart, settle-final, settling}
+use Rattle.history.proofs.MoveSettle.{Homing, homing-apart, settle-final, settling}
 use Rattle.history.proofs.Slots.{Some-of, made-some, made-all, cut-some, settle-bodies, settle-beyond, settle-low, settle-homing, writes-functional}
 use Rattle.history.proofs.Kept.{Holds, Crashed, Done, same, refusing, past-room, past-session}
 

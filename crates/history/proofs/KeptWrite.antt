@@ -18,7 +18,7 @@ use Rattle.history.specs.History.{History, drafted}
 use Rattle.history.specs.Ledger.{slotNow}
 use Rattle.history.proofs.Copies.{Mem, Fresh, Apart, Found, find?, mem-put, distinct-put, length-put, length-put-own, upd-same, upd-other, Lowest, firstOf?}
 use Rattle.history.proofs.Invariant.{Lawful, Active}
-use Rattle.history.proofs.Moves.{quiet}
+use Rattle.history.proofs.MoveQuiet.{quiet}
 use Rattle.history.proofs.Kept.{Holds, Done, said, refusing, past-session, past-record, idles, emptied}
 
 mem-some : (r : ℕ) (ws : List ℕ) (cs : List Copy) → Mem r ws cs → 1 ≤ length cs

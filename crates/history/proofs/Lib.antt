@@ -12,7 +12,11 @@ pub mod Copies
 pub mod Book
 pub mod Invariant
 pub mod Slots
-pub mod Moves
+pub mod MoveQuiet
+pub mod MoveSeal
+pub mod MovePublish
+pub mod MoveSettle
+pub mod MoveClear
 pub mod Kept
 pub mod KeptBegin
 pub mod KeptAbandon

@@ -22,7 +22,8 @@ use Rattle.history.proofs.Places.{body-same, slotAt-apart, inside-apart
 use Rattle.history.proofs.Beside.{laid-in, in-laid}
 use Rattle.history.proofs.Copies.{Mem, Distinct, Below, in-word, mem-one}
 use Rattle.history.proofs.Invariant.{Lawful}
-use Rattle.history.proofs.Moves.{Homing, Emptied}
+use Rattle.history.proofs.MoveSettle.{Homing}
+use Rattle.history.proofs.MoveClear.{Emptied}
 
 -- ---- a log that holds copies
 

@@ -9,7 +9,7 @@ use lib.Dec.{leb, ltb, eqb}
 use Rattle.layout.specs.Below.{lowest}
 use Rattle.layout.specs.Checks.{unless, first, answered}
 use Rattle.layout.specs.Image.{placeOf, persistAt}
-use Rattle.desk.specs.Desk.{sessionAt, markAt, isActive, putSession, dropped}
+use Rattle.desk.specs.Desk.{sessionAt, markAt, isActive, changed, putSession, dropped}
 use Rattle.desk.specs.declared.state.Session.{Session}
 use Rattle.desk.specs.declared.state.Desk.{Desk}
 use Rattle.desk.specs.Entering.{imageFault}
@@ -64,14 +64,8 @@ reserved count free slot = cond (eqb count 0) free slot
 
 abbrev pub copied : List ℕ → Desk → ℕ → ℕ → List ℕ → Desk
 copied img d s r ws =
-    record {
-      clock = d .clock;
-      n = d .n;
-      m = d .m;
-      holders = set (d .holders) r (s + 1);
-      sessions = set (d .sessions) s
-          (extended (sessionAt d s) r ws (reserved (sessionAt d s .count) (emptySlot img (d .n) s) (sessionAt d s .slot)));
-    }
+    changed d s (extended (sessionAt d s) r ws (reserved (sessionAt d s .count) (emptySlot img (d .n) s) (sessionAt d s .slot)))
+    (d .clock) (set (d .holders) r (s + 1))
 
 abbrev pub writeDone : List ℕ → Desk → ℕ → ℕ → List ℕ → WriteReply
 writeDone img d s r ws = writeSays (cond (ownsB d s r) (putSession d s (overwritten (sessionAt d s) r ws)) (copied img d s r ws)) Ok
