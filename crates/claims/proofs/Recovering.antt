@@ -16,9 +16,9 @@ use Rattle.layout.proofs.BelowLaws.{lowest-more}
 use Rattle.layout.specs.Checks.{first, answered}
 use Rattle.layout.proofs.ChecksLaws.{answered-zero}
 use Rattle.layout.specs.Entries.{Entry, made, endsFenced}
-use Rattle.layout.specs.Image.{recordsOf, sessionsOf, shapedB, slotWord, occupiedAt}
+use Rattle.layout.specs.Image.{recordsOf, sessionsOf, shapedB, homeAt, slotWord, occupiedAt}
 use Rattle.layout.specs.Told.{Told, refusal, clean, replayed, codeTold}
-use Rattle.journal.specs.Log.{unsoundB, countOf, recOf}
+use Rattle.journal.specs.Log.{unsoundB, countOf, recOf, wordsOf}
 use Rattle.journal.specs.Oldest.{oldestOf}
 use Rattle.journal.proofs.Least.{oldest-is}
 use Rattle.layout.proofs.Says.{says-any, says-not}
@@ -29,11 +29,11 @@ use Rattle.recovery.specs.declared.recovering.RecoverAnswer.{RecoverAnswer}
 use Rattle.recovery.specs.declared.recovering.RecoverAnswer.the-variants.{Clean as AnswerClean, Replayed}
 use Rattle.recovery.specs.declared.recovering.RecoverReply.{RecoverReply}
 use Rattle.history.specs.Log.{State, Occupied, Puts, Clean, busy}
-use Rattle.history.specs.Layout.{body, word, view, Good}
+use Rattle.history.specs.Layout.{body, logOf, view, Good}
 use Rattle.history.specs.Recover.{oldest, applied, from, recover, Attempt, whole as to-end, broken as cut-off, run as attemptWith, attempt}
 use Rattle.history.proofs.Choice.{Best, First, best, busy-none}
 use Rattle.history.proofs.Cuts.{made-append, crash-behind, arrived-all, ends-append}
-use Rattle.history.proofs.Denoted.{denoted-first}
+use Rattle.history.proofs.LogForm.{denoted-first}
 use Rattle.history.proofs.Theorems.{Carries, attempt-carries, attempt-elsewhere, one-fewer}
 use Rattle.claims.specs.Rules.{storeRules}
 use Rattle.claims.specs.Recovery.{replays, afterCalls, afterStop, Attempt as Try, afterAttempt, afterAttempts, afterWhole, Ends}
@@ -68,12 +68,12 @@ module _ (N M : ℕ) (img : List ℕ) (w : Whole N M img) (g : Good N M img) whe
 
   -- an occupied slot writes the first home word of each of its records
   puts-first : (p : ℕ) → Occupied (2 * M) (view N img) p → (j : ℕ) → j < 4 → j < countOf (slotWord img N p)
-      → (v : ℕ) × Puts (2 * M) (view N img) p (4 + 4 * recOf (slotWord img N p) j) v
+      → (v : ℕ) × Puts (2 * M) (view N img) p (homeAt (recOf (slotWord img N p) j) + 0) v
   puts-first p o j four l = (
-    word (body N img p) j 0,
+    getD (wordsOf (logOf (body N img p)) j) 0 0,
     record {
       occupied = o;
-      written = rw (← same-rec N img p j four) (denoted-first (body N img p) j (omega (arith, same-count N img p)));
+      written = rw (← same-rec N img p j four) (denoted-first (logOf (body N img p)) j (omega (arith, same-count N img p)));
     },
   )
 
@@ -84,7 +84,7 @@ module _ (N M : ℕ) (img : List ℕ) (w : Whole N M img) (g : Good N M img) whe
       let i = j .2 .1 in
       let a = puts-first p (occupied p l (t .0 .0)) (j .0) (j .1) (j .2 .0) in
       let b = puts-first q (occupied q (omega arith) (λ e. t .0 .0 (t .0 .1 ∙ e))) (i .0) (i .1) (i .2 .0) in
-      g .apart p q (4 + 4 * recOf (slotWord img N p) (j .0)) (a .0) (b .0) (λ e. omega arith) (a .1) (rw (i .2 .1) at (b .1)) (simp add-zero at (t .0 .1))
+      g .apart p q (homeAt (recOf (slotWord img N p) (j .0)) + 0) (a .0) (b .0) (λ e. omega arith) (a .1) (rw (i .2 .1) at (b .1)) (simp add-zero at (t .0 .1))
 
   -- check 13 passes
   no-ties : tiesB img ≡ false

@@ -1,4 +1,4 @@
--- Layout reads a slot word by word, history its body as a list: both find one count, the same records and writes, and one oldest log.
+-- Recover reads a slot by the words of the image, the invariant by the slot's own: of a sound log both find the same. And both find one oldest log.
 use Prim.Native.Nat.{ℕ, zero, suc, _+_, _*_, _≤_, _<_}
 use mathlib.Core.Bool.{Bool, true, false, not, cond}
 use mathlib.Core.Path.{_≡_, refl, sym, ap, _∙_, fun-ext}
@@ -9,76 +9,61 @@ use native.Mathlib.Decide.{ℕ-discrete, decLt}
 use native.Mathlib.Nat.{add-zero}
 use native.Mathlib.Omega.{arith}
 use lib.Dec.{eqb}
-use lib.ListN.{getD, drop}
-use lib.Seq.{getD-take, getD-drop}
+use lib.ListN.{getD}
 use Rattle.layout.specs.Below.{countBelow}
-use Rattle.layout.specs.Image.{slotAt, slotWord, persistAt, occupiedAt}
-use Rattle.journal.specs.Log.{Slot, countOf, recOf, wordsOf, denoted as denotedOf, unsoundB, tiedB, sharedB}
+use Rattle.layout.specs.Image.{slotWord, persistAt, occupiedAt}
+use Rattle.journal.specs.Log.{Slot, countOf, recOf, wordsOf, denoted, unsoundB, tiedB, sharedB}
 use Rattle.layout.specs.Homes.{homesWrites}
 use Rattle.journal.specs.declared.scan.Oldest.{Oldest}
 use Rattle.layout.proofs.Says.{Says, says-lt, says-eq, says-ne, says-and, says-any, says-not, by-case}
 use Rattle.journal.proofs.Least.{Least}
-use Rattle.journal.proofs.LogFacts.{Sound as SoundSlot, says-unsound}
+use Rattle.journal.proofs.LogFacts.{Sound, says-unsound}
 use Rattle.history.specs.Log.{State, busy}
-use Rattle.history.specs.Layout.{body, count, rec, word, copy, copies, denoted, view, Sound}
+use Rattle.history.specs.Layout.{body, logOf, view}
 use Rattle.history.proofs.Choice.{Best}
+use Rattle.history.proofs.HomeWrites.{homes-same}
+use Rattle.history.proofs.LogForm.{own-word}
 
 module _ (N : ℕ) (img : List ℕ) (p : ℕ) where
-  -- the body is the slot's words behind its persist number
-  body-word : (j : ℕ) → j < 21 → getD (body N img p) j 0 ≡ slotWord img N p (1 + j)
-  body-word j l =
-      getD-take 21 (drop (slotAt N p + 1) img) j 0 l ∙ getD-drop (slotAt N p + 1) img j 0 ∙ ap (λ i. getD img i 0) (omega arith)
-
   -- the count of copies
-  pub same-count : count (body N img p) ≡ countOf (slotWord img N p)
-  same-count = body-word 0 (omega arith)
+  pub same-count : countOf (logOf (body N img p)) ≡ countOf (slotWord img N p)
+  same-count = own-word N img p 1 (omega arith) (omega arith)
 
   -- the record at place k, and its words
-  pub same-rec : (k : ℕ) → k < 4 → rec (body N img p) k ≡ recOf (slotWord img N p) k
-  same-rec k l = body-word (1 + 5 * k) (omega arith) ∙ ap (slotWord img N p) (omega arith)
+  pub same-rec : (k : ℕ) → k < 4 → recOf (logOf (body N img p)) k ≡ recOf (slotWord img N p) k
+  same-rec k l = own-word N img p (2 + 5 * k) (omega arith) (omega arith)
 
-  same-word : (k j : ℕ) → k < 4 → j < 4 → word (body N img p) k j ≡ slotWord img N p (2 + 5 * k + (1 + j))
-  same-word k j l m = body-word (2 + 5 * k + j) (omega arith) ∙ ap (slotWord img N p) (omega arith)
+  same-word : (k j : ℕ) → k < 4 → j < 4 → getD (wordsOf (logOf (body N img p)) k) j 0 ≡ getD (wordsOf (slotWord img N p) k) j 0
+  same-word k zero l m = own-word N img p (2 + 5 * k + 1) (omega arith) (omega arith)
+  same-word k (suc zero) l m = own-word N img p (2 + 5 * k + 2) (omega arith) (omega arith)
+  same-word k (suc (suc zero)) l m = own-word N img p (2 + 5 * k + 3) (omega arith) (omega arith)
+  same-word k (suc (suc (suc zero))) l m = own-word N img p (2 + 5 * k + 4) (omega arith) (omega arith)
+  same-word k (suc (suc (suc (suc j)))) l m = absurd (omega arith)
 
-  -- the writes of the first c places, and of a log
-  same-copies : (c : ℕ) → c ≤ 4 → copies (body N img p) c ≡ homesWrites (recOf (slotWord img N p)) (wordsOf (slotWord img N p)) c
-  unfolding copies copy homesWrites
-  same-copies zero l = refl
-  same-copies (suc c) l =
-      rw (
-        same-copies c (omega arith),
-        same-rec c (omega arith),
-        same-word c 0 (omega arith) (omega arith),
-        same-word c 1 (omega arith) (omega arith),
-        same-word c 2 (omega arith) (omega arith),
-        same-word c 3 (omega arith) (omega arith),
-      )
+  -- what a log denotes
+  pub same-log : countOf (logOf (body N img p)) ≤ 4 → denoted (logOf (body N img p)) ≡ denoted (slotWord img N p)
+  same-log l =
+      homes-same _ _ _ _ (countOf (logOf (body N img p))) (λ k m. same-rec k (omega arith)) (λ k j m n. same-word k j (omega arith) n)
+      ∙ ap (homesWrites (recOf (slotWord img N p)) (wordsOf (slotWord img N p))) same-count
 
-  pub same-log : count (body N img p) ≤ 4 → denoted (body N img p) ≡ denotedOf (slotWord img N p)
-  unfolding denoted
-  same-log l = same-copies (count (body N img p)) l ∙ ap (homesWrites (recOf (slotWord img N p)) (wordsOf (slotWord img N p))) same-count
-
-  -- a body that is sound is a sound slot
-  pub same-sound : Sound N (body N img p) → SoundSlot N (slotWord img N p)
+  -- that it is sound
+  pub same-sound : Sound N (logOf (body N img p)) → Sound N (slotWord img N p)
   same-sound s =
       record {
-        at-least = omega (arith, same-count);
-        at-most = omega (arith, same-count);
+        at-least = omega (arith, same-count, s .at-least);
+        at-most = omega (arith, same-count, s .at-most);
         below = λ j l. omega (arith, same-rec j (four j l), s .below j (used j l));
-        differ = λ i j l m e.
-            let m′ : i < countOf (slotWord img N p) = omega arith in
-            let q : i ≡ j = s .different i j (used i m′) (used j m) (same-rec i (four i m′) ∙ e ∙ sym (same-rec j (four j m))) in
-            omega arith;
+        differ = λ i j l m e. s .differ i j l (used j m) (same-rec i (omega (arith, four j m)) ∙ e ∙ sym (same-rec j (four j m)));
       }
     where
-      used : (j : ℕ) → j < countOf (slotWord img N p) → j < count (body N img p)
+      used : (j : ℕ) → j < countOf (slotWord img N p) → j < countOf (logOf (body N img p))
       used j l = omega (arith, same-count)
 
       four : (j : ℕ) → j < countOf (slotWord img N p) → j < 4
-      four j l = omega (arith, same-count)
+      four j l = omega (arith, same-count, s .at-most)
 
 -- a slot whose log is sound where it is occupied passes check 12
-pub sound-passes : (n : ℕ) (f : Slot) → ((f 0 ≡ 0 → ⊥) → SoundSlot n f) → unsoundB n f ≡ false
+pub sound-passes : (n : ℕ) (f : Slot) → ((f 0 ≡ 0 → ⊥) → Sound n f) → unsoundB n f ≡ false
 sound-passes n f sound =
     says-not (says-unsound n f)
     (λ u. let s = sound (u .0) in

@@ -1,5 +1,5 @@
 -- Finish gives what is due.
-use Prim.Native.Nat.{ℕ, _≤_, _<_}
+use Prim.Native.Nat.{ℕ, _<_}
 use mathlib.Core.Path.{_≡_, refl, sym, ap, _∙_}
 use mathlib.Core.Bool.{false, _||_, cond}
 use mathlib.Core.List.{List, [], _∷_}
@@ -56,7 +56,7 @@ module _ (N M : ℕ) (img : List ℕ) (d : Desk) (f : ℕ → ℕ) (len s : ℕ)
 
   -- the log that is stored
   seal-entries : sealEntries d s ≡ logEntries (d .n) (placeOf s (e .slot)) (d .clock) (copiesOf e)
-  seal-entries = log-copies (slotAt (d .n) (placeOf s (e .slot))) (d .clock) e (fits N M img d s h l)
+  seal-entries = log-copies e (fits N M img d s h l) (slotAt (d .n) (placeOf s (e .slot))) (d .clock)
 
   -- an active session, by its copies
   seals : (b : ℕ) → e .phase ≡ Active b → (cs : List Copy) → copiesOf e ≡ cs

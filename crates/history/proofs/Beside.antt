@@ -1,14 +1,10 @@
 -- A log put into an empty slot beside the others: what the others denote stays, and the last word on an index is the old one or the new log's.
-use Prim.Native.Nat.{ℕ, zero, suc, _+_, _-_, _≤_, _<_}
-use mathlib.Core.Path.{_≡_, refl, ap, _∙_}
+use Prim.Native.Nat.{ℕ, _<_}
+use mathlib.Core.Path.{_≡_, _∙_}
 use mathlib.Core.Logic.{inl, inr, _≢_}
-use mathlib.Core.List.{List, [], _∷_}
 use native.Mathlib.Decide.{ℕ-discrete}
-use native.Mathlib.Omega.{arith}
-use lib.ListN.{length, getD}
-use Rattle.history.specs.Log.{In, State, Puts, Final}
+use Rattle.history.specs.Log.{State, Puts, Final}
 use Rattle.history.specs.Layout.{Home}
-use Rattle.history.specs.Batch.{laid}
 
 -- ---- the abstract part: slot p was empty, and afterwards is empty or holds a log newer than all others
 
@@ -52,20 +48,3 @@ module _ (K : ℕ) (Home : ℕ → Type 0) (s s′ : State) (p : ℕ) (b : Besid
       at : (q v : ℕ) → Puts K s′ q i v → Dec (q ≡ p) → ⊥
       at q v h (yes e) = none v (rw e at h)
       at q v h (no m) = r .unwritten q v (beside-back q i v m h)
-
--- ---- the words of a log, laid in a slot
-
-pub laid-in : (a : ℕ) (xs : List ℕ) (i v : ℕ) → In i v (laid a xs) → (a ≤ i) × (i < a + length xs) × (v ≡ getD xs (i - a) 0)
-laid-in a [] i v h = absurd h
-laid-in a (x ∷ xs) i v (inl e) =
-    let z : 0 ≡ i - a = omega (arith, e .0) in
-    (omega (arith, e .0), omega (arith, e .0), e .1 ∙ ap (λ k. getD (x ∷ xs) k 0) z)
-laid-in a (x ∷ xs) i v (inr h) =
-    let r = laid-in (suc a) xs i v h in
-    let z : suc (i - suc a) ≡ i - a = omega (arith, r .0) in
-    (omega (arith, r .0), omega (arith, r .1), r .2 ∙ ap (λ k. getD (x ∷ xs) k 0) z)
-
-pub in-laid : (a : ℕ) (xs : List ℕ) (j : ℕ) → j < length xs → In (a + j) (getD xs j 0) (laid a xs)
-in-laid a [] j h = absurd (omega arith)
-in-laid a (x ∷ xs) zero h = inl (omega arith, refl)
-in-laid a (x ∷ xs) (suc j) h = let z : a + suc j ≡ suc a + j = omega arith in inr (rw z (in-laid (suc a) xs j (omega arith)))

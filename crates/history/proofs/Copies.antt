@@ -10,8 +10,9 @@ use native.Mathlib.Omega.{arith}
 use lib.ListN.{length, getD}
 use lib.Dec.{T, eqb, eqb→eq, eqb-refl}
 use Rattle.history.specs.Log.{In}
-use Rattle.history.specs.Desk.{Copy, find, put, spot, writes, copies, upd, later, firstOf}
+use Rattle.history.specs.Desk.{Copy, find, put, spot, recAt, wordsAt, writes, upd, later, firstOf}
 use Rattle.history.proofs.Choice.{neqb→ne}
+use Rattle.history.proofs.HomeWrites.{homes-placed, homes-in}
 
 -- the copies have record r with the words ws
 abbrev pub Mem : ℕ → List ℕ → List Copy → Type 0
@@ -136,24 +137,31 @@ pub record Word (cs : List Copy) (i w : ℕ) : Type 0 where
   pub index : i ≡ spot r j
   pub content : w ≡ getD ws j 0
 
+-- copy k is one of the copies, and each of them is one
+pub at-mem : (cs : List Copy) (k : ℕ) → k < length cs → Mem (recAt cs k) (wordsAt cs k) cs
+at-mem [] k l = absurd (omega arith)
+at-mem (c ∷ cs) zero l = inl (refl, refl)
+at-mem (c ∷ cs) (suc k) l = inr (at-mem cs k (omega arith))
+
+mem-at : (cs : List Copy) (r : ℕ) (ws : List ℕ) → Mem r ws cs → (k : ℕ) × (k < length cs) × (recAt cs k ≡ r) × (wordsAt cs k ≡ ws)
+mem-at [] r ws m = absurd m
+mem-at (c ∷ cs) r ws (inl e) = (0, omega arith, sym (e .0), sym (e .1))
+mem-at (c ∷ cs) r ws (inr m) = let a = mem-at cs r ws m in (suc (a .0), omega (arith, a .1), a .2, a .3)
+
+-- their records differ
+pub at-differ : (cs : List Copy) → Distinct cs → (i j : ℕ) → i < j → j < length cs → recAt cs i ≡ recAt cs j → ⊥
+at-differ [] d i j l m e = omega arith
+at-differ (c ∷ cs) d i zero l m e = omega arith
+at-differ (c ∷ cs) d zero (suc j) l m e = d .0 (wordsAt cs j) (rw (sym e) at (at-mem cs j (omega arith)))
+at-differ (c ∷ cs) d (suc i) (suc j) l m e = at-differ cs (d .1) i j (omega arith) (omega arith) e
+
 pub in-word : (cs : List Copy) (i w : ℕ) → In i w (writes cs) → Word cs i w
-in-word [] i w h = absurd h
-in-word (c ∷ cs) i w (inl e) = record { r = c .0; j = 0; ws = c .1; mem = inl (refl, refl); j< = omega arith; index = omega (arith, e .0); content = e .1 }
-in-word (c ∷ cs) i w (inr (inl e)) = record { r = c .0; j = 1; ws = c .1; mem = inl (refl, refl); j< = omega arith; index = e .0; content = e .1 }
-in-word (c ∷ cs) i w (inr (inr (inl e))) = record { r = c .0; j = 2; ws = c .1; mem = inl (refl, refl); j< = omega arith; index = e .0; content = e .1 }
-in-word (c ∷ cs) i w (inr (inr (inr (inl e)))) = record { r = c .0; j = 3; ws = c .1; mem = inl (refl, refl); j< = omega arith; index = e .0; content = e .1 }
-in-word (c ∷ cs) i w (inr (inr (inr (inr h)))) =
-    let k = in-word cs i w h in
-    record { r = k .r; j = k .j; ws = k .ws; mem = inr (k .mem); j< = k .j<; index = k .index; content = k .content }
+in-word cs i w h =
+    let p = homes-placed (recAt cs) (wordsAt cs) (length cs) i w h in
+    record { r = recAt cs (p .k); j = p .j; ws = wordsAt cs (p .k); mem = at-mem cs (p .k) (p .k<); j< = p .j<; index = p .index; content = p .content }
 
 pub word-in : (cs : List Copy) (r : ℕ) (ws : List ℕ) → Mem r ws cs → (j : ℕ) → j < 4 → In (spot r j) (getD ws j 0) (writes cs)
-word-in [] r ws h j l = absurd h
-word-in (c ∷ cs) r ws (inl e) zero l = inl (omega (arith, e .0), rw (e .1) refl)
-word-in (c ∷ cs) r ws (inl e) (suc zero) l = inr (inl (rw (e .0) refl, rw (e .1) refl))
-word-in (c ∷ cs) r ws (inl e) (suc (suc zero)) l = inr (inr (inl (rw (e .0) refl, rw (e .1) refl)))
-word-in (c ∷ cs) r ws (inl e) (suc (suc (suc zero))) l = inr (inr (inr (inl (rw (e .0) refl, rw (e .1) refl))))
-word-in (c ∷ cs) r ws (inl e) (suc (suc (suc (suc j)))) l = absurd (omega arith)
-word-in (c ∷ cs) r ws (inr h) j l = inr (inr (inr (inr (word-in cs r ws h j l))))
+word-in cs r ws m j l = let a = mem-at cs r ws m in rw (a .2, a .3) at (homes-in (recAt cs) (wordsAt cs) (length cs) (a .0) j (a .1) l)
 
 -- a write at word j of r comes from the copy of r
 pub in-spot : (cs : List Copy) (r j w : ℕ) → j < 4 → In (spot r j) w (writes cs) → (ws : List ℕ) × Mem r ws cs × (w ≡ getD ws j 0)

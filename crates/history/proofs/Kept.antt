@@ -12,8 +12,9 @@ use Rattle.layout.specs.Crash.{crashed as cut}
 use Rattle.layout.specs.Entries.{Entry, made}
 use Rattle.layout.specs.Image.{slotAt}
 use Rattle.layout.specs.Told.{Told, refusal}
+use Rattle.journal.proofs.LogFacts.{Sound}
 use Rattle.history.specs.Log.{Occupied, Final}
-use Rattle.history.specs.Layout.{body, view, Sound, Good}
+use Rattle.history.specs.Layout.{body, logOf, view, Good}
 use Rattle.history.specs.Call.{Call, begin, read, write, abandon, finish, publish, settle, reclaim}
 use Rattle.history.specs.Cut.{feedCut}
 use Rattle.history.specs.Desk.{Copy, spot, idle, active, Desk, withSession}
@@ -26,7 +27,7 @@ use Rattle.history.proofs.MoveQuiet.{Quiet, quiet}
 
 pub record Holds (N M : ℕ) (img : List ℕ) (d : Desk) (h : History) : Type 0 where
   pub whole : length img ≡ 4 + 4 * N + 44 * M
-  pub sounds : (p : ℕ) → Occupied (2 * M) (view N img) p → Sound N (body N img p)
+  pub sounds : (p : ℕ) → Occupied (2 * M) (view N img) p → Sound N (logOf (body N img p))
   pub inv : Inv N M (view N img) d h
 
 -- what a cut leaves: a good image whose final words are the history's

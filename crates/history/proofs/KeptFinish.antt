@@ -1,5 +1,5 @@
 -- Finish keeps the invariant.
-use Prim.Native.Nat.{ℕ, _+_, _*_, _≤_, _<_}
+use Prim.Native.Nat.{ℕ, _*_, _≤_, _<_}
 use mathlib.Core.Path.{_≡_, refl, ap, _∙_}
 use mathlib.Core.Logic.{_⊎_, inl, inr, _≢_}
 use mathlib.Core.Bool.{Bool, true, false, cond, not}
@@ -13,12 +13,14 @@ use Rattle.layout.specs.Entries.{made}
 use Rattle.layout.specs.Image.{placeOf, slotAt}
 use Rattle.layout.specs.Told.{empty, sealedAt}
 use Rattle.history.specs.Log.{In, Occupied}
-use Rattle.history.specs.Layout.{Home, body, denoted, view, Sound}
-use Rattle.history.specs.Batch.{laid}
+use Rattle.history.specs.Layout.{Home, body, logOf, view}
+use Rattle.journal.specs.Log.{denoted}
+use Rattle.journal.proofs.LogFacts.{Sound}
+use Rattle.history.specs.Batch.{batch}
 use Rattle.history.specs.Call.{finish}
 use Rattle.history.specs.Cut.{feedCut}
 use Rattle.history.specs.Desk.{Copy, spot, writes, Session, idle, active, sealed, published, Desk, upd, withSession}
-use Rattle.history.specs.Due.{refuse, clockLimit, logWords, finishEntries, finishes, dueOf}
+use Rattle.history.specs.Due.{refuse, clockLimit, finishEntries, finishes, dueOf}
 use Rattle.history.specs.History.{History, sealing}
 use Rattle.history.proofs.Batch.{Words, Fit, cut-words, made-words, made-turned}
 use Rattle.history.proofs.Beside.{Beside, beside-old, beside-back}
@@ -26,8 +28,9 @@ use Rattle.history.proofs.Book.{unseen}
 use Rattle.history.proofs.Choice.{neqb→ne}
 use Rattle.history.proofs.Copies.{word-in, upd-same, upd-other}
 use Rattle.history.proofs.Invariant.{Active}
+use Rattle.history.proofs.LogForm.{bodyAt, body-denotes, body-sound, log-batch}
 use Rattle.history.proofs.MoveSeal.{seal, place-in}
-use Rattle.history.proofs.Slots.{finish-fit, finish-bodies, finish-numbers, finish-homes, finish-outside, finish-log, finish-sound}
+use Rattle.history.proofs.Slots.{finish-fit, finish-bodies, finish-numbers, finish-homes, finish-outside}
 use Rattle.history.proofs.Kept.{Holds, Crashed, crashed, Done, said, refusing, past-room, past-session, idles}
 
 module _ (N M : ℕ) (img : List ℕ) (d : Desk) (h : History) (H : Holds N M img d h) (len s : ℕ) where
@@ -41,7 +44,7 @@ module _ (N M : ℕ) (img : List ℕ) (d : Desk) (h : History) (H : Holds N M im
     vacant : getD img (slotAt N (placeOf s q)) 0 ≡ 0
     vacant = act .vacant some-copy
 
-    module _ (img′ : List ℕ) (ws : Words (laid (slotAt N (placeOf s q) + 1) (logWords cs)) (slotAt N (placeOf s q)) (d .clock) img img′) where
+    module _ (img′ : List ℕ) (ws : Words (bodyAt (slotAt N (placeOf s q)) cs) (slotAt N (placeOf s q)) (d .clock) img img′) where
       bodies : (u : ℕ) → u ≢ placeOf s q → body N img′ u ≡ body N img u
       bodies = finish-bodies N M img (placeOf s q) (d .clock) cs (H .whole) inside (act .lawful .few) img′ ws
 
@@ -75,10 +78,10 @@ module _ (N M : ℕ) (img : List ℕ) (d : Desk) (h : History) (H : Holds N M im
           off u o e = o .1 (rw e z)
 
           beside : Beside (2 * M) (Home N) (view N img) (view N img′) (placeOf s q)
-          beside = record { empty = vacant; log-same = λ u lu n. ap denoted (bodies u n); number-same = λ u lu n. numbers u n; home-same = homes }
+          beside = record { empty = vacant; log-same = λ u lu n. ap (λ b. denoted (logOf b)) (bodies u n); number-same = λ u lu n. numbers u n; home-same = homes }
 
       -- the number has arrived, and so has everything: sealed
-      has : getD img′ (slotAt N (placeOf s q)) 0 ≡ d .clock → ((i w : ℕ) → In i w (laid (slotAt N (placeOf s q) + 1) (logWords cs)) → getD img′ i 0 ≡ w)
+      has : getD img′ (slotAt N (placeOf s q)) 0 ≡ d .clock → ((i w : ℕ) → In i w (bodyAt (slotAt N (placeOf s q)) cs) → getD img′ i 0 ≡ w)
           → Holds N M img′ (withSession s (sealed (d .clock) q cs) d) (sealing s h)
       has e all = record {
         whole = ws .long ∙ H .whole;
@@ -90,22 +93,22 @@ module _ (N M : ℕ) (img : List ℕ) (d : Desk) (h : History) (H : Holds N M im
               only-p = λ i w k. rw logs at k;
               covers-p = λ r ws′ m j lj. inl (rw logs (word-in cs r ws′ m j lj));
               number-same = λ u lu n. numbers u n;
-              log-same = λ u lu n. ap denoted (bodies u n);
+              log-same = λ u lu n. ap (λ b. denoted (logOf b)) (bodies u n);
               home-same = homes;
             });
       }
         where
-          logs : denoted (body N img′ (placeOf s q)) ≡ writes cs
-          logs = finish-log N M img (placeOf s q) (d .clock) cs (H .whole) inside (act .lawful .few) img′ ws all
+          logs : denoted (logOf (body N img′ (placeOf s q))) ≡ writes cs
+          logs = body-denotes N img′ (placeOf s q) cs (act .lawful .few) all
 
-          go : (u : ℕ) → Occupied (2 * M) (view N img′) u → Dec (u ≡ placeOf s q) → Sound N (body N img′ u)
-          go u o (yes x) = rw x (finish-sound N M img (placeOf s q) (d .clock) cs (H .whole) inside (act .lawful .few) img′ ws all (act .lawful) some-copy)
+          go : (u : ℕ) → Occupied (2 * M) (view N img′) u → Dec (u ≡ placeOf s q) → Sound N (logOf (body N img′ u))
+          go u o (yes x) = rw x (body-sound N img′ (placeOf s q) cs (act .lawful .few) all (act .lawful) some-copy)
           go u o (no n) = rw (bodies u n) (H .sounds u (was u n o))
 
-    fit : Fit (laid (slotAt N (placeOf s q) + 1) (logWords cs)) (slotAt N (placeOf s q)) img
+    fit : Fit (bodyAt (slotAt N (placeOf s q)) cs) (slotAt N (placeOf s q)) img
     fit = finish-fit N M img (placeOf s q) (d .clock) cs (H .whole) inside (act .lawful .few)
 
-    sealed-done : Done N M img d h (finish len s) (record { answer = sealedAt (d .clock); entries = finishEntries N (placeOf s q) (d .clock) cs })
+    sealed-done : Done N M img d h (finish len s) (record { answer = sealedAt (d .clock); entries = batch (bodyAt (slotAt N (placeOf s q)) cs) (slotAt N (placeOf s q)) (d .clock) })
     sealed-done = record {
       kept = rw is (go₁ (ws₁ .turn));
       later = record { clock = omega arith; views = λ σ r k. unseen σ r (h .sealed) s (h .draft s) (h .opening r) };
@@ -116,9 +119,9 @@ module _ (N M : ℕ) (img : List ℕ) (d : Desk) (h : History) (H : Holds N M im
     }
       where
         img₁ : List ℕ
-        img₁ = made (finishEntries N (placeOf s q) (d .clock) cs) img
+        img₁ = made (batch (bodyAt (slotAt N (placeOf s q)) cs) (slotAt N (placeOf s q)) (d .clock)) img
 
-        ws₁ : Words (laid (slotAt N (placeOf s q) + 1) (logWords cs)) (slotAt N (placeOf s q)) (d .clock) img img₁
+        ws₁ : Words (bodyAt (slotAt N (placeOf s q)) cs) (slotAt N (placeOf s q)) (d .clock) img img₁
         ws₁ = made-words _ (slotAt N (placeOf s q)) (d .clock) img fit
 
         turned : getD img₁ (slotAt N (placeOf s q)) 0 ≡ d .clock
@@ -129,23 +132,23 @@ module _ (N M : ℕ) (img : List ℕ) (d : Desk) (h : History) (H : Holds N M im
         mark p (no n) = rw (upd-other (placeOf s q) (d .clock) (view N img .number) p n) (numbers img₁ ws₁ p n)
 
         go₁ : (getD img₁ (slotAt N (placeOf s q)) 0 ≡ getD img (slotAt N (placeOf s q)) 0)
-            ⊎ ((getD img₁ (slotAt N (placeOf s q)) 0 ≡ d .clock) × ((i w : ℕ) → In i w (laid (slotAt N (placeOf s q) + 1) (logWords cs)) → getD img₁ i 0 ≡ w))
+            ⊎ ((getD img₁ (slotAt N (placeOf s q)) 0 ≡ d .clock) × ((i w : ℕ) → In i w (bodyAt (slotAt N (placeOf s q)) cs) → getD img₁ i 0 ≡ w))
             → Holds N M img₁ (withSession s (sealed (d .clock) q cs) d) (sealing s h)
         go₁ (inl e) = absurd (omega (arith, H .inv .positive, turned, e, vacant))
         go₁ (inr c) = has img₁ ws₁ (c .0) (c .1)
 
         go₂ : (k : ℕ) (sel : ℕ → Bool)
-            → Words (laid (slotAt N (placeOf s q) + 1) (logWords cs)) (slotAt N (placeOf s q)) (d .clock) img (cut k sel (finishEntries N (placeOf s q) (d .clock) cs) img)
-            → Crashed N M (cut k sel (finishEntries N (placeOf s q) (d .clock) cs) img)
-            (feedCut N d (finish len s) (sealedAt (d .clock)) (cut k sel (finishEntries N (placeOf s q) (d .clock) cs) img) h)
+            → Words (bodyAt (slotAt N (placeOf s q)) cs) (slotAt N (placeOf s q)) (d .clock) img (cut k sel (batch (bodyAt (slotAt N (placeOf s q)) cs) (slotAt N (placeOf s q)) (d .clock)) img)
+            → Crashed N M (cut k sel (batch (bodyAt (slotAt N (placeOf s q)) cs) (slotAt N (placeOf s q)) (d .clock)) img)
+            (feedCut N d (finish len s) (sealedAt (d .clock)) (cut k sel (batch (bodyAt (slotAt N (placeOf s q)) cs) (slotAt N (placeOf s q)) (d .clock)) img) h)
         go₂ k sel ws = rw is (at (eqb (getD img₂ (slotAt N (placeOf s q)) 0) (d .clock)) (eqb→eq _ (d .clock)) (neqb→ne _ (d .clock)) (ws .turn))
           where
             img₂ : List ℕ
-            img₂ = cut k sel (finishEntries N (placeOf s q) (d .clock) cs) img
+            img₂ = cut k sel (batch (bodyAt (slotAt N (placeOf s q)) cs) (slotAt N (placeOf s q)) (d .clock)) img
 
             at : (t : Bool) → (T t → getD img₂ (slotAt N (placeOf s q)) 0 ≡ d .clock) → (T (not t) → getD img₂ (slotAt N (placeOf s q)) 0 ≢ d .clock)
                 → (getD img₂ (slotAt N (placeOf s q)) 0 ≡ getD img (slotAt N (placeOf s q)) 0)
-                ⊎ ((getD img₂ (slotAt N (placeOf s q)) 0 ≡ d .clock) × ((i w : ℕ) → In i w (laid (slotAt N (placeOf s q) + 1) (logWords cs)) → getD img₂ i 0 ≡ w))
+                ⊎ ((getD img₂ (slotAt N (placeOf s q)) 0 ≡ d .clock) × ((i w : ℕ) → In i w (bodyAt (slotAt N (placeOf s q)) cs) → getD img₂ i 0 ≡ w))
                 → Crashed N M img₂ (cond t (sealing s h) h)
             at true y n (inl e) = absurd (omega (arith, H .inv .positive, y tt, e, vacant))
             at true y n (inr c) = crashed N M img₂ _ _ (has img₂ ws (c .0) (c .1))
@@ -161,7 +164,7 @@ module _ (N M : ℕ) (img : List ℕ) (d : Desk) (h : History) (H : Holds N M im
     where
       go : (t : Bool) → Done N M img d h (finish len s) (cond t (refuse 10) (record { answer = sealedAt (d .clock); entries = finishEntries N (placeOf s q) (d .clock) (c ∷ cs) }))
       go true = refusing N M img d h H (finish len s) 10 refl
-      go false = sealed-done l b q (c ∷ cs) e (omega arith)
+      go false = rw (log-batch (slotAt N (placeOf s q)) (d .clock) (c ∷ cs)) (sealed-done l b q (c ∷ cs) e (omega arith))
   finish-at l (sealed n q cs) e = refusing N M img d h H (finish len s) 6 refl
   finish-at l (published f q cs) e = refusing N M img d h H (finish len s) 6 refl
 

@@ -10,14 +10,15 @@ use native.Mathlib.Omega.{arith}
 use lib.ListN.{getD}
 use lib.Seq.{getD-set-same}
 use lib.Dec.{T, eqb, leb, ltb, nltb→le}
-use borrow.Author.Tests.{ne-eqb, leb-true, leb-false, eqb-true}
+use borrow.Author.Tests.{ne-eqb, leb-true, leb-false}
 use Rattle.layout.proofs.Says.{by-test}
 use Rattle.layout.specs.Crash.{crashed as cut}
 use Rattle.layout.specs.Entries.{made}
 use Rattle.layout.specs.Image.{placeOf, slotAt}
 use Rattle.layout.specs.Told.{nothing, held, cleared}
+use Rattle.journal.specs.Log.{denoted}
 use Rattle.history.specs.Log.{Occupied, Oldest}
-use Rattle.history.specs.Layout.{denoted, view}
+use Rattle.history.specs.Layout.{logOf, view}
 use Rattle.history.specs.Call.{reclaim}
 use Rattle.history.specs.Desk.{spot, Session, idle, active, sealed, published, Desk, upd}
 use Rattle.history.specs.Due.{say, lesser, smallest, clearEntries, clears, reclaims, dueOf}
@@ -181,7 +182,7 @@ module _ (N M : ℕ) (img : List ℕ) (d : Desk) (h : History) (H : Holds N M im
                 hm : Homing N (2 * M) (view N img) (view N img′) []
                 hm = record {
                   number-same = λ u _. unturned N M img img′ (placeOf s q) ow e (slotAt N u);
-                  log-same = λ u _. ap denoted (clear-bodies N M img img′ (placeOf s q) ow u);
+                  log-same = λ u _. ap (λ b. denoted (logOf b)) (clear-bodies N M img img′ (placeOf s q) ow u);
                   home-kept = λ i _. inl (unturned N M img img′ (placeOf s q) ow e i);
                 }
 

@@ -2,7 +2,8 @@ pub mod Abstract
 pub mod Cuts
 pub mod Batch
 pub mod Places
-pub mod Denoted
+pub mod HomeWrites
+pub mod LogForm
 pub mod OneStep
 pub mod Choice
 pub mod Theorems

@@ -1,120 +1,35 @@
 -- What the entries of finish, settle and reclaim leave of an image, whole or cut: the moves' relations on its view, and that logs stay sound.
-use Prim.Native.Nat.{ℕ, zero, suc, _+_, _-_, _*_, _≤_, _<_}
-use mathlib.Core.Path.{_≡_, refl, sym, ap, _∙_}
+use Prim.Native.Nat.{ℕ, zero, _+_, _*_, _≤_, _<_}
+use mathlib.Core.Path.{_≡_, ap}
 use mathlib.Core.Logic.{_⊎_, inl, inr, _≢_}
 use mathlib.Core.Bool.{Bool}
-use mathlib.Core.List.{List, [], _∷_, _++_, append-assoc, append-nil}
+use mathlib.Core.List.{List, [], _∷_, _++_}
 use native.Mathlib.Decide.{ℕ-discrete, decLt}
 use native.Mathlib.Omega.{arith}
-use lib.ListN.{length, getD, take, drop, set, length-set}
-use lib.Seq.{getD-take, getD-drop, take-nil}
+use lib.ListN.{length, getD, take, set, length-set}
+use lib.Seq.{take-nil}
 use Rattle.history.specs.Log.{Write, In, Functional}
 use Rattle.layout.specs.Entries.{Entry, store, fence, made, stores}
 use Rattle.layout.specs.Crash.{arrived, crashed as cut}
 use Rattle.layout.specs.Image.{slotAt}
-use Rattle.history.specs.Layout.{Home, body, count, rec, word, copy, copies as places, denoted, view, Sound}
-use Rattle.history.specs.Batch.{laid}
-use Rattle.history.specs.Desk.{Copy, writes, flat}
-use Rattle.history.specs.Due.{logWords, settleEntries, clearEntries}
+use Rattle.history.specs.Layout.{Home, body, logOf, view}
+use Rattle.journal.specs.Log.{denoted}
+use Rattle.history.specs.Desk.{Copy, writes}
 use Rattle.history.proofs.Cuts.{set-word, Stored, stored-take, stored-in, arrived-word, length-arrived, made-word, length-made, made-written, made-append, cut-fence}
 use Rattle.history.proofs.Batch.{Words, Fit}
 use Rattle.history.proofs.Places.{body-same, slotAt-apart, inside-apart}
-use Rattle.history.proofs.Beside.{laid-in, in-laid}
-use Rattle.history.proofs.Copies.{Mem, Distinct, Below, in-word, mem-one}
-use Rattle.history.proofs.Invariant.{Lawful}
+use Rattle.history.proofs.LogForm.{bodyAt, body-lies, body-fit}
+use Rattle.history.proofs.Copies.{Distinct, Below, in-word, mem-one}
 use Rattle.history.proofs.MoveSettle.{Homing}
 use Rattle.history.proofs.MoveClear.{Emptied}
-
--- ---- a log that holds copies
-
-length-flat : (cs : List Copy) → length (flat cs) ≡ 5 * length cs
-length-flat [] = refl
-length-flat (c ∷ cs) = let h : length (flat cs) ≡ 5 * length cs = length-flat cs in omega arith
-
--- from placeOf k on, the log b holds the copies cs
-abbrev Placed : List ℕ → ℕ → List Copy → Type 0
-Placed b k [] = Unit {0}
-Placed b k (c ∷ cs) =
-    (rec b k ≡ c .0) × (word b k 0 ≡ getD (c .1) 0 0) × (word b k 1 ≡ getD (c .1) 1 0) × (word b k 2 ≡ getD (c .1) 2 0) × (word b k 3 ≡ getD (c .1) 3 0)
-    × Placed b (suc k) cs
-
-placed : (b : List ℕ) (k : ℕ) (cs : List Copy) → ((i : ℕ) → i < length (flat cs) → getD b (1 + 5 * k + i) 0 ≡ getD (flat cs) i 0) → Placed b k cs
-placed b k [] h = tt
-placed b k (c ∷ cs) h = (
-  at 0 (1 + 5 * k) (omega arith) (omega arith),
-  at 1 (2 + 5 * k + 0) (omega arith) (omega arith),
-  at 2 (2 + 5 * k + 1) (omega arith) (omega arith),
-  at 3 (2 + 5 * k + 2) (omega arith) (omega arith),
-  at 4 (2 + 5 * k + 3) (omega arith) (omega arith),
-  placed b (suc k) cs next,
-)
-  where
-    at : (i n : ℕ) → n ≡ 1 + 5 * k + i → i < length (flat (c ∷ cs)) → getD b n 0 ≡ getD (flat (c ∷ cs)) i 0
-    at i n e l = rw e (h i l)
-
-    next : (i : ℕ) → i < length (flat cs) → getD b (1 + 5 * suc k + i) 0 ≡ getD (flat cs) i 0
-    next i l = at (suc (suc (suc (suc (suc i))))) (1 + 5 * suc k + i) (omega arith) (omega arith)
-
-one-copy : (b : List ℕ) (k : ℕ) (c : Copy) (cs : List Copy) → Placed b k (c ∷ cs) → copy b k ++ writes cs ≡ writes (c ∷ cs)
-unfolding copy
-one-copy b k c cs p = rw (p .0, p .1, p .2, p .3, p .4) refl
-
-all-copies : (b : List ℕ) (k : ℕ) (cs : List Copy) → Placed b k cs → places b k ++ writes cs ≡ places b (k + length cs)
-all-copies b k [] p = let z : k + 0 ≡ k = omega arith in rw z (append-nil (places b k))
-all-copies b k (c ∷ cs) p =
-    let z : k + suc (length cs) ≡ suc k + length cs = omega arith in
-    rw z (ap (λ l. places b k ++ l) (sym (one-copy b k c cs p)) ∙ sym (append-assoc (places b k) (copy b k) (writes cs)) ∙ step ∙ all-copies b (suc k) cs (p .5))
-  where
-    step : (places b k ++ copy b k) ++ writes cs ≡ places b (suc k) ++ writes cs
-    step = unfold places in refl
-
-pub denotes : (b : List ℕ) (cs : List Copy) → count b ≡ length cs → Placed b 0 cs → denoted b ≡ writes cs
-unfolding denoted places
-denotes b cs e p = let z : count b ≡ 0 + length cs = omega arith in ap (places b) z ∙ sym (all-copies b 0 cs p)
-
-placed-mem : (b : List ℕ) (k : ℕ) (cs : List Copy) → Placed b k cs → (i n : ℕ) → n ≡ k + i → i < length cs → (ws : List ℕ) × Mem (rec b n) ws cs
-placed-mem b k [] p i n e l = absurd (omega arith)
-placed-mem b k (c ∷ cs) p zero n e l = let z : n ≡ k = omega arith in (c .1, inl (rw z (p .0), refl))
-placed-mem b k (c ∷ cs) p (suc i) n e l = let m = placed-mem b (suc k) cs (p .5) i n (omega arith) (omega arith) in (m .0, inr (m .1))
-
-placed-apart : (b : List ℕ) (k : ℕ) (cs : List Copy) → Distinct cs → Placed b k cs → (i l m n : ℕ) → m ≡ k + i → n ≡ k + l → i < length cs → l < length cs → rec b m ≡ rec b n → i ≡ l
-placed-apart b k [] d p i l m n em en li ll e = absurd (omega arith)
-placed-apart b k (c ∷ cs) d p zero zero m n em en li ll e = refl
-placed-apart b k (c ∷ cs) d p zero (suc l) m n em en li ll e =
-    let z : m ≡ k = omega arith in
-    let f = placed-mem b (suc k) cs (p .5) l n (omega arith) (omega arith) in
-    absurd (d .0 (f .0) (rw (sym e ∙ ap (rec b) z ∙ p .0) at (f .1)))
-placed-apart b k (c ∷ cs) d p (suc i) zero m n em en li ll e =
-    let z : n ≡ k = omega arith in
-    let f = placed-mem b (suc k) cs (p .5) i m (omega arith) (omega arith) in
-    absurd (d .0 (f .0) (rw (e ∙ ap (rec b) z ∙ p .0) at (f .1)))
-placed-apart b k (c ∷ cs) d p (suc i) (suc l) m n em en li ll e =
-    let h : i ≡ l = placed-apart b (suc k) cs (d .1) (p .5) i l m n (omega arith) (omega arith) (omega arith) (omega arith) e in omega arith
-
-pub sound : (N : ℕ) (b : List ℕ) (cs : List Copy) → count b ≡ length cs → Placed b 0 cs → Lawful N cs → 1 ≤ length cs → Sound N b
-sound N b cs e p g s = record {
-  at-least = omega arith;
-  at-most = omega (arith, g .few);
-  below = λ k l. let m = placed-mem b 0 cs p k k (omega arith) (omega arith) in g .below (rec b k) (m .0) (m .1);
-  different = λ k l lk ll r. placed-apart b 0 cs (g .distinct) p k l k l (omega arith) (omega arith) (omega arith) (omega arith) r;
-}
 
 -- ---- finish
 
 module _ (N M : ℕ) (img : List ℕ) (p n : ℕ) (cs : List Copy) (whole : length img ≡ 4 + 4 * N + 44 * M) (inside : p < 2 * M) (few : length cs ≤ 4) where
-  lies : (i v : ℕ) → In i v (laid (slotAt N p + 1) (logWords cs)) → (slotAt N p < i) × (i < slotAt N p + 22) × (v ≡ getD (logWords cs) (i - (slotAt N p + 1)) 0)
-  lies i v h =
-      let l = laid-in (slotAt N p + 1) (logWords cs) i v h in
-      (omega (arith, l .0), omega (arith, l .1, length-flat cs), l .2)
+  pub finish-fit : Fit (bodyAt (slotAt N p) cs) (slotAt N p) img
+  finish-fit = body-fit (slotAt N p) cs img few (omega arith)
 
-  pub finish-fit : Fit (laid (slotAt N p + 1) (logWords cs)) (slotAt N p) img
-  finish-fit = record {
-    functional = λ i v w h k. lies i v h .2 ∙ sym (lies i w k .2);
-    apart = λ i w h e. omega (arith, lies i w h .0);
-    inside = λ i w h. omega (arith, lies i w h .1);
-  }
-
-  module _ (img′ : List ℕ) (ws : Words (laid (slotAt N p + 1) (logWords cs)) (slotAt N p) n img img′) where
+  module _ (img′ : List ℕ) (ws : Words (bodyAt (slotAt N p) cs) (slotAt N p) n img img′) where
     pub finish-outside : (j : ℕ) → (j < slotAt N p) ⊎ (slotAt N p + 22 ≤ j) → getD img′ j 0 ≡ getD img j 0
     finish-outside j o = go (ws .word j (miss o))
       where
@@ -122,11 +37,11 @@ module _ (N M : ℕ) (img : List ℕ) (p n : ℕ) (cs : List Copy) (whole : leng
         miss (inl l) e = omega arith
         miss (inr l) e = omega arith
 
-        off : (j < slotAt N p) ⊎ (slotAt N p + 22 ≤ j) → ¬ In j (getD img′ j 0) (laid (slotAt N p + 1) (logWords cs))
-        off (inl l) h = omega (arith, lies j _ h .0)
-        off (inr l) h = omega (arith, lies j _ h .1)
+        off : (j < slotAt N p) ⊎ (slotAt N p + 22 ≤ j) → ¬ In j (getD img′ j 0) (bodyAt (slotAt N p) cs)
+        off (inl l) h = omega (arith, body-lies (slotAt N p) cs few j _ h .0)
+        off (inr l) h = omega (arith, body-lies (slotAt N p) cs few j _ h .1)
 
-        go : (getD img′ j 0 ≡ getD img j 0) ⊎ In j (getD img′ j 0) (laid (slotAt N p + 1) (logWords cs)) → getD img′ j 0 ≡ getD img j 0
+        go : (getD img′ j 0 ≡ getD img j 0) ⊎ In j (getD img′ j 0) (bodyAt (slotAt N p) cs) → getD img′ j 0 ≡ getD img j 0
         go (inl e) = e
         go (inr h) = absurd (off o h)
 
@@ -145,29 +60,6 @@ module _ (N M : ℕ) (img : List ℕ) (p n : ℕ) (cs : List Copy) (whole : leng
 
     pub finish-homes : (i : ℕ) → Home N i → getD img′ i 0 ≡ getD img i 0
     finish-homes i h = finish-outside i (inl (omega arith))
-
-    -- all words have arrived: the slot's body begins with the log's words
-    module _ (all : (i w : ℕ) → In i w (laid (slotAt N p + 1) (logWords cs)) → getD img′ i 0 ≡ w) where
-      arrived-words : (i : ℕ) → i < length (logWords cs) → getD (body N img′ p) i 0 ≡ getD (logWords cs) i 0
-      arrived-words i l =
-          let i< : i < 21 = omega (arith, length-flat cs) in
-          rw (getD-take 21 (drop (slotAt N p + 1) img′) i 0 i<, getD-drop (slotAt N p + 1) img′ i 0)
-          (all (slotAt N p + 1 + i) (getD (logWords cs) i 0) (in-laid (slotAt N p + 1) (logWords cs) i l))
-
-      counted : count (body N img′ p) ≡ length cs
-      counted = arrived-words 0 (omega arith)
-
-      in-placeOf : Placed (body N img′ p) 0 cs
-      in-placeOf = placed (body N img′ p) 0 cs (λ i l. go i l)
-        where
-          go : (i : ℕ) → i < length (flat cs) → getD (body N img′ p) (1 + 5 * 0 + i) 0 ≡ getD (flat cs) i 0
-          go i l = let z : 1 + 5 * 0 + i ≡ suc i = omega arith in rw z (arrived-words (suc i) (omega arith))
-
-      pub finish-log : denoted (body N img′ p) ≡ writes cs
-      finish-log = denotes (body N img′ p) cs counted in-placeOf
-
-      pub finish-sound : Lawful N cs → 1 ≤ length cs → Sound N (body N img′ p)
-      finish-sound g s = sound N (body N img′ p) cs counted in-placeOf g s
 
 -- ---- settle
 
@@ -234,7 +126,7 @@ module _ (N M : ℕ) (img : List ℕ) (cs : List Copy) (img′ : List ℕ) (bl :
   pub settle-homing : Homing N (2 * M) (view N img) (view N img′) (writes cs)
   settle-homing = record {
     number-same = λ q l. settle-beyond (slotAt N q) (omega arith);
-    log-same = λ q l. ap denoted (settle-bodies q);
+    log-same = λ q l. ap (λ b. denoted (logOf b)) (settle-bodies q);
     home-kept = λ i h. so .word i;
   }
 
@@ -290,7 +182,7 @@ module _ (N M : ℕ) (img img′ : List ℕ) (p : ℕ) (ow : One-word (slotAt N 
   clear-emptied z = record {
     number-p = z;
     number-same = λ q l d. ow .others (slotAt N q) (slotAt-apart N q p d);
-    log-same = λ q l. ap denoted (clear-bodies q);
+    log-same = λ q l. ap (λ b. denoted (logOf b)) (clear-bodies q);
     home-same = λ i h. ow .others i (λ e. omega arith);
   }
 

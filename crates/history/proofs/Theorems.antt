@@ -3,17 +3,18 @@ use Prim.Native.Nat.{ℕ, suc, _*_, _<_}
 use mathlib.Core.Path.{_≡_, refl}
 use mathlib.Core.Logic.{_⊎_, inl, inr, _≢_}
 use mathlib.Core.Option.{Option, none, some}
-use mathlib.Core.List.{List, [], _∷_}
+use mathlib.Core.List.{List, []}
 use native.Mathlib.Omega.{arith}
 use lib.ListN.{length, getD}
 use lib.Seq.{take-nil}
 use Rattle.history.specs.Log.{In, Occupied, Final, busy}
 use Rattle.layout.specs.Entries.{Entry}
+use Rattle.journal.specs.Log.{denoted}
 use Rattle.layout.specs.Image.{slotAt}
-use Rattle.history.specs.Layout.{Home, body, denoted, view, Good}
+use Rattle.history.specs.Layout.{Home, body, logOf, view, Good}
 use Rattle.history.specs.Recover.{oldest, applied, from, recover, Attempt, whole, broken, run, attempt}
 use Rattle.history.proofs.Abstract.{final-kept}
-use Rattle.history.proofs.Denoted.{sound-home, sound-functional}
+use Rattle.history.proofs.LogForm.{sound-home, sound-functional}
 use Rattle.history.proofs.OneStep.{step, still-good}
 use Rattle.history.proofs.Batch.{Words, Fit, cut-words, made-words, made-turned}
 use Rattle.history.proofs.Choice.{Best, First, best, busy-fewer}
@@ -31,21 +32,21 @@ module _ (N M : ℕ) (img : List ℕ) (g : Good N M img) where
     fits : slotAt N p < length img
     fits = omega (arith, g .whole, occ .0)
 
-    home : (i w : ℕ) → In i w (denoted (body N img p)) → Home N i
-    home = sound-home N (body N img p) (g .sound p occ)
+    home : (i w : ℕ) → In i w (denoted (logOf (body N img p))) → Home N i
+    home = sound-home N (logOf (body N img p)) (g .sound p occ)
 
-    fit : Fit (denoted (body N img p)) (slotAt N p) img
+    fit : Fit (denoted (logOf (body N img p))) (slotAt N p) img
     fit = record {
-      functional = sound-functional N (body N img p) (g .sound p occ);
+      functional = sound-functional N (logOf (body N img p)) (g .sound p occ);
       apart = λ i w h e. omega (arith, home i w h);
       inside = λ i w h. omega (arith, home i w h, fits);
     }
 
-    run-words : (a : Attempt) → Words (denoted (body N img p)) (slotAt N p) 0 img (run a (applied N img p) img)
-    run-words whole = made-words (denoted (body N img p)) (slotAt N p) 0 img fit
-    run-words (broken k sel) = cut-words (denoted (body N img p)) (slotAt N p) 0 img fit k sel
+    run-words : (a : Attempt) → Words (denoted (logOf (body N img p))) (slotAt N p) 0 img (run a (applied N img p) img)
+    run-words whole = made-words (denoted (logOf (body N img p))) (slotAt N p) 0 img fit
+    run-words (broken k sel) = cut-words (denoted (logOf (body N img p))) (slotAt N p) 0 img fit k sel
 
-    words-carry : (img′ : List ℕ) → Words (denoted (body N img p)) (slotAt N p) 0 img img′ → Carries N M img img′
+    words-carry : (img′ : List ℕ) → Words (denoted (logOf (body N img p))) (slotAt N p) 0 img img′ → Carries N M img img′
     words-carry img′ ws = record {
       good = still-good N M img img′ p g occ ws;
       final = λ i w h. final-kept (2 * M) (Home N) (view N img) (view N img′) p (step N M img img′ p g occ ws) (f .found) i w h;
@@ -55,7 +56,7 @@ module _ (N M : ℕ) (img : List ℕ) (g : Good N M img) where
     pub one-fewer : suc (busy (view N (run whole (applied N img p) img) .number) (2 * M)) ≡ busy (view N img .number) (2 * M)
     one-fewer =
         busy-fewer (view N img .number) (view N (run whole (applied N img p) img) .number) (2 * M) p (occ .0) (occ .1)
-        (made-turned (denoted (body N img p)) (slotAt N p) 0 img fit fits)
+        (made-turned (denoted (logOf (body N img p))) (slotAt N p) 0 img fit fits)
         (step N M img (run whole (applied N img p) img) p g occ (run-words whole) .number-same)
 
   run-nothing : (a : Attempt) → run a [] img ≡ img
@@ -76,7 +77,7 @@ module _ (N M : ℕ) (img : List ℕ) (g : Good N M img) where
   unfolding attempt recover
   attempt-elsewhere a j nh nb = go (oldest (view N img) (2 * M)) (best (view N img) (2 * M))
     where
-      same : (p : ℕ) (f : First (2 * M) (view N img) p) (v : ℕ) → (v ≡ getD img j 0) ⊎ In j v (denoted (body N img p)) → v ≡ getD img j 0
+      same : (p : ℕ) (f : First (2 * M) (view N img) p) (v : ℕ) → (v ≡ getD img j 0) ⊎ In j v (denoted (logOf (body N img p))) → v ≡ getD img j 0
       same p f v (inl e) = e
       same p f v (inr h) = absurd (nh (home p f j v h))
 

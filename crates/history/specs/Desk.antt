@@ -3,9 +3,10 @@ use Prim.Native.Nat.{ℕ, zero, suc, _+_, _*_}
 use mathlib.Core.Bool.{Bool, true, false, cond}
 use mathlib.Core.Option.{Option, none, some}
 use mathlib.Core.List.{List, [], _∷_}
-use lib.ListN.{getD}
+use lib.ListN.{length, getD}
 use lib.Dec.{eqb, ltb}
-use Rattle.history.specs.Log.{Write}
+use Rattle.layout.specs.Entries.{Write}
+use Rattle.layout.specs.Homes.{homesWrites}
 
 -- a copy: a record, and the words it is to have
 abbrev pub Copy : Type 0
@@ -24,17 +25,16 @@ put r ws (c ∷ cs) = cond (eqb r (c .0)) ((r, ws) ∷ cs) (c ∷ put r ws cs)
 abbrev pub spot : ℕ → ℕ → ℕ
 spot r j = 4 + 4 * r + j
 
+-- the record and the words of copy j
+abbrev pub recAt : List Copy → ℕ → ℕ
+recAt cs j = getD cs j (0, []) .0
+
+abbrev pub wordsAt : List Copy → ℕ → List ℕ
+wordsAt cs j = getD cs j (0, []) .1
+
 -- the word writes that copies stand for
 abbrev pub writes : List Copy → List Write
-writes [] = []
-writes (c ∷ cs) =
-    (4 + 4 * c .0, getD (c .1) 0 0) ∷ (4 + 4 * c .0 + 1, getD (c .1) 1 0) ∷ (4 + 4 * c .0 + 2, getD (c .1) 2 0) ∷
-    (4 + 4 * c .0 + 3, getD (c .1) 3 0) ∷ writes cs
-
--- the words of copies in a log, behind the count
-abbrev pub flat : List Copy → List ℕ
-flat [] = []
-flat (c ∷ cs) = c .0 ∷ getD (c .1) 0 0 ∷ getD (c .1) 1 0 ∷ getD (c .1) 2 0 ∷ getD (c .1) 3 0 ∷ flat cs
+writes cs = homesWrites (recAt cs) (wordsAt cs) (length cs)
 
 -- a session: the number of its phase, the slot reserved (0 or 1), and its copies
 pub data Session : Type 0 where

@@ -1,17 +1,17 @@
 -- What is due by document 01's rules: from the ledger alone, what a call tells and the entries that it stores, in a store of N records and
 -- M sessions.
-use Prim.Native.Nat.{ℕ, zero, suc, _+_, _*_}
+use Prim.Native.Nat.{ℕ, zero, suc, _*_}
 use mathlib.Core.Bool.{Bool, true, false, cond}
 use mathlib.Core.Option.{Option, none, some}
 use mathlib.Core.List.{List, [], _∷_, _++_}
 use lib.ListN.{length, getD}
 use lib.Dec.{eqb, leb, ltb}
-use Rattle.layout.specs.Entries.{Entry, store, fence, stores}
+use Rattle.layout.specs.Entries.{Entry, store, fence, stores, shift}
 use Rattle.layout.specs.Image.{placeOf, slotAt}
 use Rattle.layout.specs.Told.{Told, refused, refusal, ok, start, own, copied, home, empty, sealedAt, endedAt, wait, nothing, held, cleared}
-use Rattle.history.specs.Batch.{batch, laid}
+use Rattle.journal.specs.Log.{logEntries}
 use Rattle.history.specs.Call.{Call, begin, read, write, abandon, finish, publish, settle, reclaim}
-use Rattle.history.specs.Desk.{Copy, find, writes, flat, Session, idle, active, sealed, published, Desk, holder, firstOf, before}
+use Rattle.history.specs.Desk.{Copy, find, recAt, wordsAt, writes, Session, idle, active, sealed, published, Desk, holder, firstOf, before}
 use Rattle.history.specs.History.{History, viewAt}
 use Rattle.history.specs.Ledger.{Ledger, candidate}
 
@@ -98,12 +98,9 @@ abandons (active b q cs) = say ok
 abandons (sealed n q cs) = refuse 6
 abandons (published e q cs) = refuse 6
 
--- count and copies, a fence, the persist number, a fence
-abbrev pub logWords : List Copy → List ℕ
-logWords cs = length cs ∷ flat cs
-
+-- the log of the copies, in the slot at place p
 abbrev pub finishEntries : ℕ → ℕ → ℕ → List Copy → List Entry
-finishEntries N p n cs = batch (laid (slotAt N p + 1) (logWords cs)) (slotAt N p) n
+finishEntries N p n cs = shift (slotAt N p) (logEntries n (recAt cs) (wordsAt cs) (length cs))
 
 -- empty, 10, or sealed with the clock
 abbrev pub sealsCopies : ℕ → ℕ → ℕ → List Copy → Due

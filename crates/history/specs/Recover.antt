@@ -4,12 +4,13 @@ use mathlib.Core.Bool.{Bool, cond}
 use mathlib.Core.Option.{Option, none, some}
 use mathlib.Core.List.{List, []}
 use lib.Dec.{eqb, leb}
+use Rattle.journal.specs.Log.{denoted}
 use Rattle.history.specs.Log.{State}
 use Rattle.layout.specs.Entries.{Entry, made}
 use Rattle.layout.specs.Crash.{crashed as cut}
 use Rattle.history.specs.Batch.{batch}
 use Rattle.layout.specs.Image.{slotAt}
-use Rattle.history.specs.Layout.{body, denoted, view}
+use Rattle.history.specs.Layout.{body, logOf, view}
 
 -- the better of the best so far and slot p: an empty slot is none, and among equals the earlier stays
 abbrev pub better : State → Option ℕ → ℕ → Option ℕ
@@ -23,7 +24,7 @@ oldest s (suc k) = better s (oldest s k) k
 
 -- the entries that apply the log of slot p and empty the slot
 abbrev pub applied : ℕ → List ℕ → ℕ → List Entry
-applied N img p = batch (denoted (body N img p)) (slotAt N p) 0
+applied N img p = batch (denoted (logOf (body N img p))) (slotAt N p) 0
 
 abbrev pub from : ℕ → List ℕ → Option ℕ → List Entry
 from N img none = []

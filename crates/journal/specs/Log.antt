@@ -1,5 +1,5 @@
--- The form of a log, and what it denotes. The code of this crate writes and reads it. Crate `history` states the form a second time
--- (specs/Layout.antt), and claims/proofs/SameLog.antt shows that the two agree. A log is read by the words of its slot, as a function of
+-- The form of a log, and what it denotes. The code of this crate writes and reads it, and the invariant and recovery speak of what this
+-- file says a log denotes (history/proofs/LogForm.antt has the laws that they need). A log is read by the words of its slot, by
 -- their place: word 0 the persist number, word 1 the count of copies, then 4 places of 5 words, record number and record words.
 use Prim.Native.Nat.{ℕ, zero, suc, _+_, _*_}
 use mathlib.Core.Bool.{Bool, _&&_, _||_, not}
