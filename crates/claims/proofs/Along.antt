@@ -26,7 +26,8 @@ use Rattle.claims.proofs.SimulateFinish.{finish-sim}
 use Rattle.claims.proofs.SimulateSettle.{settle-sim}
 use Rattle.claims.proofs.SimulateReclaim.{reclaim-sim}
 use Rattle.claims.proofs.Opening.{opens-desk, opens-ready, opens-numbers, opens-holds, fresh-idle}
-use Rattle.claims.proofs.ReadyKept.{whole-again, whole-of, ready-kept}
+use Rattle.claims.proofs.ReadyKept.{whole-of, ready-kept}
+use Rattle.claims.proofs.Recovering.{whole-again}
 
 pub record Along (N M : ℕ) (w : World) : Type 0 where
   pub ready : Ready N M (w .image) (w .desk)

@@ -20,7 +20,7 @@ use Rattle.history.specs.Desk.{spot}
 use Rattle.history.specs.Due.{fourWords}
 use Rattle.history.specs.History.{History, recordOf}
 use Rattle.history.specs.Layout.{Home, view}
-use Rattle.history.specs.Log.{Final, Clean, busy}
+use Rattle.history.specs.Log.{Final, Clean}
 use Rattle.history.proofs.Abstract.{final-clean}
 use Rattle.history.proofs.Calls.{due-done}
 use Rattle.history.proofs.Kept.{Crashed, crashed}
@@ -30,8 +30,8 @@ use Rattle.claims.specs.Run.{World, reply}
 use Rattle.claims.specs.Recovery.{Attempt, afterCalls, afterStop, afterAttempts, Ends}
 use Rattle.claims.specs.Demands.{Recovered}
 use Rattle.claims.proofs.Along.{Along, same}
-use Rattle.claims.proofs.Recovering.{Whole, Follows, clean-told, calls-follow, stop-made, calls-more, attempts-follow, ends}
-use Rattle.claims.proofs.ReadyKept.{whole-again, whole-of}
+use Rattle.claims.proofs.Recovering.{Whole, whole-again, logsIn, Follows, clean-told, calls-follow, stop-made, calls-more, attempts-follow, ends}
+use Rattle.claims.proofs.ReadyKept.{whole-of}
 
 -- what a cut leaves
 pub record Left (N M : ℕ) (img : List ℕ) (h : History) : Type 0 where
@@ -98,7 +98,7 @@ module _ (N M : ℕ) (first : List ℕ) (h : History) (n-same : recordsOf first 
 
     -- the caller repeats until clean
     pub tried-ends : (x : ℕ → ℕ) → Ends storeRules x tried
-    tried-ends x = ends (busy (view N tried .number) (2 * M)) N M x tried (after .whole) (after .carries .good) (le-refl _)
+    tried-ends x = ends (logsIn N M tried) N M x tried (after .whole) (after .carries .good) (le-refl _)
 
     -- whenever recover answers "clean" the image is recovered
     pub tried-clean : (whole : List ℕ) (last : ℕ) (sel : ℕ → Bool) → storeRules .recover (afterCalls storeRules whole tried) last .told ≡ clean

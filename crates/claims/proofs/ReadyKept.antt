@@ -1,11 +1,7 @@
 -- Image and desk stay ready along the calls of the store.
-use Prim.Native.Nat.{ℕ, _+_, _*_, _<_}
+use Prim.Native.Nat.{ℕ}
 use mathlib.Core.Path.{_≡_, refl, _∙_}
 use mathlib.Core.List.{List}
-use native.Mathlib.Omega.{arith}
-use lib.ListN.{getD, length}
-use Rattle.layout.specs.Image.{recordsOf, sessionsOf}
-use Rattle.layout.proofs.Shape.{says-shaped}
 use Rattle.desk.specs.declared.state.Desk.{Desk}
 use Rattle.history.specs.Call.{Call, begin, read, write, abandon, finish, publish, settle, reclaim}
 use Rattle.claims.specs.Rules.{storeRules}
@@ -14,20 +10,6 @@ use Rattle.claims.proofs.Recovering.{Whole}
 use Rattle.claims.proofs.Simulation.{Ready}
 use Rattle.claims.proofs.Steady.{Steady, Kept}
 use Rattle.claims.proofs.SteadyCalls.{begin-kept, abandon-kept, publish-kept, write-kept, finish-kept, settle-kept, read-desk, reclaim-desk}
-
--- an image of the same length with the same header words is as whole
-pub whole-again : (N M : ℕ) (img img′ : List ℕ) → Whole N M img → ((j : ℕ) → j < 4 → getD img′ j 0 ≡ getD img j 0) → length img′ ≡ 4 + 4 * N + 44 * M → Whole N M img′
-whole-again N M img img′ h low long =
-    let s = says-shaped img .yes (h .shaped) in
-    let n : recordsOf img′ ≡ recordsOf img = low 1 (omega arith) in
-    let m : sessionsOf img′ ≡ sessionsOf img = low 2 (omega arith) in
-    record {
-      shaped =
-          says-shaped img′ .no
-          (record { mark = low 0 (omega arith) ∙ s .mark; range = rw (n, m) (s .range); size = long ∙ omega (arith, n, m, h .records, h .sessions) });
-      records = n ∙ h .records;
-      sessions = m ∙ h .sessions;
-    }
 
 pub whole-of : (N M : ℕ) (img : List ℕ) (d : Desk) → Ready N M img d → Whole N M img
 whole-of N M img d h = record { shaped = h .shaped; records = h .records; sessions = h .sessions }

@@ -1,50 +1,63 @@
 -- The store's recover, on a good image, does what history's does; so what is proved of history's holds of the store's.
 use Prim.Native.Nat.{ℕ, zero, suc, _+_, _*_, _≤_, _<_}
-use mathlib.Core.Bool.{Bool, true, false, cond}
+use mathlib.Core.Bool.{Bool, true, false, cond, not}
 use mathlib.Core.Path.{_≡_, refl, sym, ap, _∙_}
+use mathlib.Core.Logic.{_⊎_, inl, inr, _≢_}
 use mathlib.Core.List.{List, [], _∷_, _++_, append-nil}
-use mathlib.Core.Option.{Option, none, some}
-use native.Mathlib.Decide.{decLt}
+use native.Mathlib.Decide.{ℕ-discrete, decLt}
 use native.Mathlib.Numerals.{add-one}
 use native.Mathlib.Nat.{add-zero}
 use native.Mathlib.Omega.{arith}
-use lib.ListN.{getD}
+use lib.Dec.{eqb}
+use lib.ListN.{length, getD}
 use lib.Seq.{take-nil}
-use borrow.Author.Tests.{le-leb, lt-leb, eq-eqb, ne-eqb}
+use borrow.Author.Tests.{le-leb, lt-leb, eq-eqb, ne-eqb, eqb-false}
 use Rattle.layout.specs.Below.{countBelow, lowest}
 use Rattle.layout.proofs.BelowLaws.{lowest-more}
 use Rattle.layout.specs.Checks.{first, answered}
 use Rattle.layout.proofs.ChecksLaws.{answered-zero}
 use Rattle.layout.specs.Entries.{Entry, made, endsFenced}
-use Rattle.layout.specs.Image.{recordsOf, sessionsOf, shapedB, homeAt, slotWord, occupiedAt}
+use Rattle.layout.specs.Image.{recordsOf, sessionsOf, shapedB, homeAt, slotAt, slotWord, persistAt, occupiedAt}
 use Rattle.layout.specs.Told.{Told, refusal, clean, replayed, codeTold}
 use Rattle.journal.specs.Log.{unsoundB, countOf, recOf, wordsOf}
-use Rattle.journal.specs.Oldest.{oldestOf}
-use Rattle.journal.proofs.Least.{oldest-is}
+use Rattle.journal.proofs.Least.{Least, oldest-is}
 use Rattle.layout.proofs.Says.{says-any, says-not}
-use Rattle.layout.proofs.Shape.{Shaped, says-shaped}
+use Rattle.layout.proofs.Shape.{says-shaped}
 use Rattle.recovery.specs.Recover.{slotsOf, logAt, unsoundPlace, tiedBelow, tiesB, recoverFault, firstLog, cleanB, replayEntries, recoverEntries, recoverDone, recoverRefused, recoverReply}
 use Rattle.recovery.specs.Told.{recoverTold}
-use Rattle.recovery.specs.declared.recovering.RecoverAnswer.{RecoverAnswer}
-use Rattle.recovery.specs.declared.recovering.RecoverAnswer.the-variants.{Clean as AnswerClean, Replayed}
 use Rattle.recovery.specs.declared.recovering.RecoverReply.{RecoverReply}
-use Rattle.history.specs.Log.{State, Occupied, Puts, Clean, busy}
+use Rattle.history.specs.Log.{Occupied, Puts, Clean, Oldest}
 use Rattle.history.specs.Layout.{body, logOf, view, Good}
-use Rattle.history.specs.Recover.{oldest, applied, from, recover, Attempt, whole as to-end, broken as cut-off, run as attemptWith, attempt}
-use Rattle.history.proofs.Choice.{Best, First, best, busy-none}
+use Rattle.history.specs.Recover.{applied, Attempt, whole as to-end, broken as cut-off, run as attemptWith}
 use Rattle.history.proofs.Cuts.{made-append, crash-behind, arrived-all, ends-append}
 use Rattle.history.proofs.LogForm.{denoted-first}
-use Rattle.history.proofs.Theorems.{Carries, attempt-carries, attempt-elsewhere, one-fewer}
+use Rattle.history.proofs.Places.{slotAt-apart}
+use Rattle.history.proofs.Theorems.{Carries, step-carries, step-elsewhere, step-empties}
 use Rattle.claims.specs.Rules.{storeRules}
 use Rattle.claims.specs.Recovery.{replays, afterCalls, afterStop, Attempt as Try, afterAttempt, afterAttempts, afterWhole, Ends}
 use Rattle.claims.proofs.Lists.{lists}
-use Rattle.claims.proofs.SameLog.{same-count, same-rec, same-log, same-sound, sound-passes, Tied, says-tied, Agrees, agrees, same-numbers, same-busy}
+use Rattle.claims.proofs.SameLog.{same-count, same-rec, same-log, same-sound, sound-passes, Tied, says-tied}
+use Rattle.claims.proofs.Steady.{count-changed}
 
 -- header and length are right, for N records and M sessions
 pub record Whole (N M : ℕ) (img : List ℕ) : Type 0 where
   pub shaped : shapedB img ≡ true
   pub records : recordsOf img ≡ N
   pub sessions : sessionsOf img ≡ M
+
+-- an image of the same length with the same header words is as whole
+pub whole-again : (N M : ℕ) (img img′ : List ℕ) → Whole N M img → ((j : ℕ) → j < 4 → getD img′ j 0 ≡ getD img j 0) → length img′ ≡ 4 + 4 * N + 44 * M → Whole N M img′
+whole-again N M img img′ h low long =
+    let s = says-shaped img .yes (h .shaped) in
+    let n : recordsOf img′ ≡ recordsOf img = low 1 (omega arith) in
+    let m : sessionsOf img′ ≡ sessionsOf img = low 2 (omega arith) in
+    record {
+      shaped =
+          says-shaped img′ .no
+          (record { mark = low 0 (omega arith) ∙ s .mark; range = rw (n, m) (s .range); size = long ∙ omega (arith, n, m, h .records, h .sessions) });
+      records = n ∙ h .records;
+      sessions = m ∙ h .sessions;
+    }
 
 -- a test that fails of every number below n finds none
 lowest-all : (p : ℕ → Bool) (n : ℕ) → ((i : ℕ) → i < n → p i ≡ false) → lowest n p ≡ n
@@ -93,72 +106,61 @@ module _ (N M : ℕ) (img : List ℕ) (w : Whole N M img) (g : Good N M img) whe
       says-not (says-any (slotsOf img) (λ p. says-any p (λ q. says-tied (logAt img p) (logAt img q))))
       (rw (w .records, w .sessions) (λ t. never-tied (t .0) (t .2 .0) (t .1) (t .2 .1) (t .2 .2)))
 
-  -- the log that is taken is the oldest
-  first-log : firstLog img ≡ oldestOf (view N img .number) (2 * M)
-  unfolding firstLog
-  first-log = rw (w .records, w .sessions) (ap (λ f. oldestOf f (2 * M)) (same-numbers N img))
+  number-is : (p : ℕ) → view N img .number p ≡ persistAt img N p
+  number-is p = rw add-zero refl
 
-  first-agrees : (o : Option ℕ) → Best (view N img) (2 * M) o → Agrees (view N img) o (firstLog img)
-  first-agrees o b = agrees (view N img) (2 * M) o (firstLog img) b (rw first-log (oldest-is (view N img .number) (2 * M)))
+  -- recover finds no log, or the oldest
+  abbrev Finds : Type 0
+  Finds = (Clean (2 * M) (view N img) × (firstLog img .persist ≡ 0)) ⊎ (Oldest (2 * M) (view N img) (firstLog img .place) × (firstLog img .persist ≢ 0))
 
-  -- its entries are history's
-  same-entries : (p : ℕ) → Occupied (2 * M) (view N img) p → replayEntries img p ≡ applied N img p
-  same-entries p o = rw (w .records, ← same-log N img p (g .sound p o .at-most))
+  pub finds : Finds
+  finds = go (ℕ-discrete (firstLog img .persist) 0)
+    where
+      least : Least (persistAt img N) (2 * M) (firstLog img)
+      least = unfold firstLog in (rw (w .records, w .sessions) (oldest-is (persistAt img N) (2 * M)))
 
--- the answer where the oldest log stands in slot o
-abbrev answerAt : State → Option ℕ → RecoverAnswer
-answerAt s none = AnswerClean
-answerAt s (some p) = Replayed (s .number p)
+      go : Dec (firstLog img .persist ≡ 0) → Finds
+      go (yes e) = inl (λ p l. number-is p ∙ least .none e p l, e)
+      go (no n) = inr (
+        record {
+          occupied = (least .some n .0, λ z. n (sym (least .some n .1) ∙ sym (number-is _) ∙ z));
+          least = λ q o. omega (arith, number-is (firstLog img .place), least .some n .1, number-is q, least .least q (o .0) (λ z. o .1 (number-is q ∙ z)));
+        },
+        n,
+      )
 
 -- ---- one call
 
-module _ (N M : ℕ) (img : List ℕ) (len : ℕ) (w : Whole N M img) (g : Good N M img) (room : 48 ≤ len) where
-  -- recover refuses nothing
-  pub recover-passes : recoverFault img len ≡ 0
-  unfolding recoverFault first
-  recover-passes = rw (w .shaped, le-leb 48 len room, eq-eqb _ _ (none-unsound N M img w g), no-ties N M img w g)
-
-  -- its entries, where the oldest log stands in slot o
-  entries-at : (o : Option ℕ) → Best (view N img) (2 * M) o → recoverEntries img len ≡ from N img o
-  unfolding recoverEntries
-  entries-at o b = answered-zero (recoverFault img len) _ _ recover-passes ∙ go o b (first-agrees N M img w g o b)
-    where
-      go : (o : Option ℕ) → Best (view N img) (2 * M) o → Agrees (view N img) o (firstLog img)
-          → cond (cleanB img) [] (replayEntries img (firstLog img .place)) ≡ from N img o
-      go none b a = rw (eq-eqb _ _ a)
-      go (some p) b a = rw (ne-eqb _ _ (a .2), a .0) (same-entries N M img w g p (b .found .occupied))
-
-  -- and its answer
-  answer-at : (o : Option ℕ) → Best (view N img) (2 * M) o → recoverReply img len .answer ≡ answerAt (view N img) o
-  unfolding recoverReply
-  answer-at o b =
-      ap (λ (r : RecoverReply). r .answer) (answered-zero (recoverFault img len) _ _ recover-passes)
-      ∙ go o (first-agrees N M img w g o b)
-    where
-      go : (o : Option ℕ) → Agrees (view N img) o (firstLog img) → recoverDone img .answer ≡ answerAt (view N img) o
-      go none a = rw (eq-eqb _ _ a)
-      go (some p) a = rw (ne-eqb _ _ (a .2), a .1)
-
-  -- recover lists what history's recover lists
-  pub recover-same : recoverEntries img len ≡ recover N M img
-  unfolding recover
-  recover-same = entries-at (oldest (view N img) (2 * M)) (best (view N img) (2 * M))
-
--- what recover tells where the oldest log stands in slot o
-abbrev pub toldAt : State → Option ℕ → Told
-toldAt s none = clean
-toldAt s (some p) = replayed (s .number p)
-
 module _ (N M : ℕ) (img : List ℕ) (len : ℕ) (w : Whole N M img) (g : Good N M img) where
-  -- with room in the trace it tells this
-  pub tells-at : 48 ≤ len → (o : Option ℕ) → Best (view N img) (2 * M) o → storeRules .recover img len .told ≡ toldAt (view N img) o
-  tells-at room o b = ap recoverTold (answer-at N M img len w g room o b) ∙ go o
-    where
-      go : (o : Option ℕ) → recoverTold (answerAt (view N img) o) ≡ toldAt (view N img) o
-      go none = refl
-      go (some p) = refl
+  -- with room in the trace recover refuses nothing
+  recover-passes : 48 ≤ len → recoverFault img len ≡ 0
+  unfolding recoverFault first
+  recover-passes room = rw (w .shaped, le-leb 48 len room, eq-eqb _ _ (none-unsound N M img w g), no-ties N M img w g)
 
-  -- without, it is refused
+  -- so it lists and tells what it does
+  lists-done : 48 ≤ len → recoverEntries img len ≡ cond (cleanB img) [] (replayEntries img (firstLog img .place))
+  unfolding recoverEntries
+  lists-done room = answered-zero (recoverFault img len) _ _ (recover-passes room)
+
+  tells-done : 48 ≤ len → storeRules .recover img len .told ≡ recoverTold (recoverDone img .answer)
+  unfolding recoverReply
+  tells-done room = ap (λ (r : RecoverReply). recoverTold (r .answer)) (answered-zero (recoverFault img len) _ _ (recover-passes room))
+
+  -- without a log nothing, and "clean"
+  clean-entries : 48 ≤ len → firstLog img .persist ≡ 0 → recoverEntries img len ≡ []
+  clean-entries room e = lists-done room ∙ rw (eq-eqb _ _ e)
+
+  clean-tells : 48 ≤ len → firstLog img .persist ≡ 0 → storeRules .recover img len .told ≡ clean
+  clean-tells room e = tells-done room ∙ rw (eq-eqb _ _ e)
+
+  -- else the oldest log is applied, and "replayed"
+  log-entries : 48 ≤ len → Oldest (2 * M) (view N img) (firstLog img .place) → firstLog img .persist ≢ 0 → recoverEntries img len ≡ applied N img (firstLog img .place)
+  log-entries room o n = lists-done room ∙ rw (ne-eqb _ _ n, w .records, ← same-log N img (firstLog img .place) (g .sound (firstLog img .place) (o .occupied) .at-most))
+
+  log-tells : 48 ≤ len → firstLog img .persist ≢ 0 → storeRules .recover img len .told ≡ replayed (firstLog img .persist)
+  log-tells room n = tells-done room ∙ rw (ne-eqb _ _ n)
+
+  -- without room it is refused
   short : len < 48 → recoverFault img len ≡ 3
   unfolding recoverFault first
   short l = rw (w .shaped, lt-leb 48 len l)
@@ -175,16 +177,16 @@ module _ (N M : ℕ) (img : List ℕ) (len : ℕ) (w : Whole N M img) (g : Good 
   pub clean-told : storeRules .recover img len .told ≡ clean → Clean (2 * M) (view N img) × (recoverEntries img len ≡ [])
   clean-told e = by-room (decLt len 48)
     where
-      by-slot : 48 ≤ len → (o : Option ℕ) → Best (view N img) (2 * M) o → Clean (2 * M) (view N img) × (recoverEntries img len ≡ [])
-      by-slot room none b = (b, entries-at N M img len w g room none b)
-      by-slot room (some p) b = absurd (not-clean (sym (tells-at room (some p) b) ∙ e))
-        where
-          not-clean : {p : ℕ} → replayed p ≡ clean → ⊥
-          not-clean e = let z : _≡_ {A = ℕ} 33 32 = ap codeTold e in omega arith
+      not-clean : {t : Told} → t ≡ clean → eqb (codeTold t) 32 ≡ false → ⊥
+      not-clean e b = eqb-false _ _ b (ap codeTold e)
+
+      by-log : 48 ≤ len → Finds N M img w g → Clean (2 * M) (view N img) × (recoverEntries img len ≡ [])
+      by-log room (inl c) = (c .0, clean-entries room (c .1))
+      by-log room (inr o) = absurd (not-clean (sym (log-tells room (o .1)) ∙ e) refl)
 
       by-room : Dec (len < 48) → Clean (2 * M) (view N img) × (recoverEntries img len ≡ [])
-      by-room (yes l) = absurd (let z : _≡_ {A = ℕ} 0 32 = ap codeTold (sym (short-tells l) ∙ e) in omega arith)
-      by-room (no n) = by-slot (omega arith) (oldest (view N img) (2 * M)) (best (view N img) (2 * M))
+      by-room (yes l) = absurd (not-clean (sym (short-tells l) ∙ e) refl)
+      by-room (no n) = by-log (omega arith) (finds N M img w g)
 
 -- ---- what calls of recover leave
 
@@ -201,43 +203,29 @@ follows-then p q =
     record { whole = q .whole; carries = record { good = q .carries .good; final = λ i x h f. q .carries .final i x h (p .carries .final i x h f) } }
 
 module _ (N M : ℕ) (img : List ℕ) (w : Whole N M img) (g : Good N M img) where
-  -- a step of history's recovery, whole or broken off anywhere, keeps header and length
-  whole-kept : (a : Attempt) → Whole N M (attempt N M a img)
-  whole-kept a =
+  -- a step, whole or broken off anywhere, keeps header and length
+  step-follows : (p : ℕ) → Oldest (2 * M) (view N img) p → (a : Attempt) → Follows N M img (attemptWith a (applied N img p) img)
+  step-follows p o a =
       record {
-        shaped = says-shaped (attempt N M a img) .no (record {
-          mark = header 0 (omega arith) ∙ shape .mark;
-          range = rw (header 1 (omega arith), header 2 (omega arith)) (shape .range);
-          size = rw (records, sessions) (attempt-carries N M img g a .good .whole);
-        });
-        records = records;
-        sessions = sessions;
+        whole = whole-again N M img _ w (λ j l. step-elsewhere N M img g p o a j (λ h. omega arith) (λ e. omega arith)) (step-carries N M img g p o a .good .whole);
+        carries = step-carries N M img g p o a;
       }
-    where
-      shape : Shaped img
-      shape = says-shaped img .yes (w .shaped)
-
-      header : (j : ℕ) → j < 4 → getD (attempt N M a img) j 0 ≡ getD img j 0
-      header j l = attempt-elsewhere N M img g a j (λ h. omega arith) (λ p e. omega arith)
-
-      records : recordsOf (attempt N M a img) ≡ N
-      records = header 1 (omega arith) ∙ w .records
-
-      sessions : sessionsOf (attempt N M a img) ≡ M
-      sessions = header 2 (omega arith) ∙ w .sessions
 
   -- a call, whole or broken off anywhere, with a trace of any length
   pub call-follows : (len : ℕ) (a : Attempt) → Follows N M img (attemptWith a (recoverEntries img len) img)
-  unfolding attempt
   call-follows len a = go (decLt len 48)
     where
       nothing : (a : Attempt) → attemptWith a [] img ≡ img
       nothing to-end = refl
       nothing (cut-off k sel) = rw (take-nil {A = Entry} k) refl
 
+      by-log : 48 ≤ len → Finds N M img w g → Follows N M img (attemptWith a (recoverEntries img len) img)
+      by-log room (inl c) = rw (clean-entries N M img len w g room (c .1), nothing a) (follows-self N M img w g)
+      by-log room (inr o) = rw (log-entries N M img len w g room (o .0) (o .1)) (step-follows (firstLog img .place) (o .0) a)
+
       go : Dec (len < 48) → Follows N M img (attemptWith a (recoverEntries img len) img)
       go (yes l) = rw (short-entries N M img len w g l, nothing a) (follows-self N M img w g)
-      go (no n) = rw (recover-same N M img len w g (omega arith)) (record { whole = whole-kept a; carries = attempt-carries N M img g a })
+      go (no n) = by-log (omega arith) (finds N M img w g)
 
 -- ---- calls one after the other
 
@@ -286,50 +274,75 @@ attempts-follow N M (a ∷ rest) img w g =
 
 -- ---- the caller repeats until clean
 
-count-busy : (N M : ℕ) (img : List ℕ) → Whole N M img → countBelow (2 * sessionsOf img) (occupiedAt img (recordsOf img)) ≡ busy (view N img .number) (2 * M)
-count-busy N M img w = rw (w .records, w .sessions) (sym (same-busy N img (2 * M)))
+-- the number of occupied slots
+abbrev pub logsIn : ℕ → ℕ → List ℕ → ℕ
+logsIn N M img = countBelow (2 * M) (occupiedAt img N)
 
 module _ (N M : ℕ) (x : ℕ → ℕ) (img : List ℕ) (w : Whole N M img) (g : Good N M img) where
+  -- the image after a call
+  abbrev next : List ℕ
+  next = made (recoverEntries img (48 + x 0)) img
+
+  after : Follows N M img next
+  after = call-follows N M img w g (48 + x 0) to-end
+
   -- at once
-  ends-now : Clean (2 * M) (view N img) → Ends storeRules x img
+  ends-now : firstLog img .persist ≡ 0 → Ends storeRules x img
   unfolding afterWhole
-  ends-now c =
+  ends-now e =
       record {
         calls = 0;
         few = omega arith;
         replayed-each = λ i l. absurd (omega arith);
-        then-clean = tells-at N M img (48 + x 0) w g (omega arith) none c;
+        then-clean = clean-tells N M img (48 + x 0) w g (omega arith) e;
       }
 
-  -- a call, and those after it
-  abbrev next : List ℕ
-  next = made (recoverEntries img (48 + x 0)) img
+  module _ (o : Oldest (2 * M) (view N img) (firstLog img .place)) (n : firstLog img .persist ≢ 0) where
+    -- one log fewer
+    fewer : suc (logsIn N M next) ≡ logsIn N M img
+    fewer =
+        let c = count-changed (occupiedAt next N) (occupiedAt img N) (firstLog img .place) others (2 * M) (o .occupied .0) in
+        let a : occupiedAt next N (firstLog img .place) ≡ false = ap not (eq-eqb (persistAt next N (firstLog img .place)) 0 (rw add-zero emptied)) in
+        let b : occupiedAt img N (firstLog img .place) ≡ true = ap not (ne-eqb (persistAt img N (firstLog img .place)) 0 (λ z. o .occupied .1 (number-is N M img w g (firstLog img .place) ∙ z))) in
+        let d = rw (a, b) at c in
+        omega (arith, d)
+      where
+        listed : recoverEntries img (48 + x 0) ≡ applied N img (firstLog img .place)
+        listed = log-entries N M img (48 + x 0) w g (omega arith) o n
 
-  fewer : (p : ℕ) → First (2 * M) (view N img) p → suc (busy (view N next .number) (2 * M)) ≡ busy (view N img .number) (2 * M)
-  fewer p f = rw (entries-at N M img (48 + x 0) w g (omega arith) (some p) f) (one-fewer N M img g p f)
+        emptied : getD next (slotAt N (firstLog img .place)) 0 ≡ 0
+        emptied = rw listed (step-empties N M img g (firstLog img .place) o)
 
-  ends-after : (p : ℕ) → First (2 * M) (view N img) p → Ends storeRules (λ i. x (suc i)) next → Ends storeRules x img
-  unfolding afterWhole
-  ends-after p f e =
-      record {
-        calls = suc (e .calls);
-        few = omega (arith, e .few, count-busy N M img w, count-busy N M next (call-follows N M img w g (48 + x 0) to-end .whole), fewer p f);
-        replayed-each = λ i l. each i l;
-        then-clean = e .then-clean;
-      }
-    where
-      each : (i : ℕ) → i < suc (e .calls) → (q : ℕ) × (storeRules .recover (afterWhole storeRules x i img) (48 + x i) .told ≡ replayed q)
-      each zero l = (view N img .number p, tells-at N M img (48 + x 0) w g (omega arith) (some p) f)
-      each (suc i) l = e .replayed-each i (omega arith)
+        others : (q : ℕ) → (q ≡ firstLog img .place → ⊥) → occupiedAt next N q ≡ occupiedAt img N q
+        others q d =
+            let e : getD next (slotAt N q) 0 ≡ getD img (slotAt N q) 0 =
+            rw listed (step-elsewhere N M img g (firstLog img .place) o to-end (slotAt N q) (λ h. omega arith) (slotAt-apart N q (firstLog img .place) d)) in
+            let f : persistAt next N q ≡ persistAt img N q = rw add-zero e in
+            ap (λ k. not (eqb k 0)) f
 
-pub ends : (n N M : ℕ) (x : ℕ → ℕ) (img : List ℕ) → Whole N M img → Good N M img → busy (view N img .number) (2 * M) ≤ n → Ends storeRules x img
-ends zero N M x img w g h = ends-now N M x img w g (busy-none (view N img .number) (2 * M) (omega arith))
-ends (suc n) N M x img w g h = go (oldest (view N img) (2 * M)) (best (view N img) (2 * M)) (λ b. ends n N M (λ i. x (suc i)) (next N M x img w g) (after .whole) (after .carries .good) b)
+    -- a call, and those after it
+    ends-after : Ends storeRules (λ i. x (suc i)) next → Ends storeRules x img
+    unfolding afterWhole
+    ends-after e =
+        record {
+          calls = suc (e .calls);
+          few = rw (w .records, w .sessions) (omega (arith, rw (after .whole .records, after .whole .sessions) at (e .few), fewer));
+          replayed-each = each;
+          then-clean = e .then-clean;
+        }
+      where
+        each : (i : ℕ) → i < suc (e .calls) → (q : ℕ) × (storeRules .recover (afterWhole storeRules x i img) (48 + x i) .told ≡ replayed q)
+        each zero l = (firstLog img .persist, log-tells N M img (48 + x 0) w g (omega arith) n)
+        each (suc i) l = e .replayed-each i (omega arith)
+
+pub ends : (k N M : ℕ) (x : ℕ → ℕ) (img : List ℕ) → Whole N M img → Good N M img → logsIn N M img ≤ k → Ends storeRules x img
+ends zero N M x img w g h = go (finds N M img w g)
   where
-    after : Follows N M img (next N M x img w g)
-    after = call-follows N M img w g (48 + x 0) to-end
-
-    go : (o : Option ℕ) → Best (view N img) (2 * M) o
-        → (busy (view N (next N M x img w g) .number) (2 * M) ≤ n → Ends storeRules (λ i. x (suc i)) (next N M x img w g)) → Ends storeRules x img
-    go none c ih = ends-now N M x img w g c
-    go (some p) f ih = ends-after N M x img w g p f (ih (omega (arith, fewer N M x img w g p f)))
+    go : Finds N M img w g → Ends storeRules x img
+    go (inl c) = ends-now N M x img w g (c .1)
+    go (inr o) = absurd (omega (arith, fewer N M x img w g (o .0) (o .1)))
+ends (suc k) N M x img w g h = go (finds N M img w g) (λ b. ends k N M (λ i. x (suc i)) (next N M x img w g) (after N M x img w g .whole) (after N M x img w g .carries .good) b)
+  where
+    go : Finds N M img w g → (logsIn N M (next N M x img w g) ≤ k → Ends storeRules (λ i. x (suc i)) (next N M x img w g)) → Ends storeRules x img
+    go (inl c) ih = ends-now N M x img w g (c .1)
+    go (inr o) ih = ends-after N M x img w g (o .0) (o .1) (ih (omega (arith, fewer N M x img w g (o .0) (o .1))))

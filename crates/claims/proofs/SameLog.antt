@@ -1,26 +1,16 @@
--- Recover reads a slot by the words of the image, the invariant by the slot's own: of a sound log both find the same. And both find one oldest log.
+-- Recover reads a slot by the words of the image, the invariant by the slot's own: of a sound log both find the same.
 use Prim.Native.Nat.{ℕ, zero, suc, _+_, _*_, _≤_, _<_}
-use mathlib.Core.Bool.{Bool, true, false, not, cond}
-use mathlib.Core.Path.{_≡_, refl, sym, ap, _∙_, fun-ext}
-use mathlib.Core.Logic.{_≢_}
+use mathlib.Core.Bool.{false}
+use mathlib.Core.Path.{_≡_, sym, ap, _∙_}
 use mathlib.Core.List.{List}
-use mathlib.Core.Option.{Option, none, some}
-use native.Mathlib.Decide.{ℕ-discrete, decLt}
-use native.Mathlib.Nat.{add-zero}
 use native.Mathlib.Omega.{arith}
-use lib.Dec.{eqb}
 use lib.ListN.{getD}
-use Rattle.layout.specs.Below.{countBelow}
-use Rattle.layout.specs.Image.{slotWord, persistAt, occupiedAt}
+use Rattle.layout.specs.Image.{slotWord}
 use Rattle.journal.specs.Log.{Slot, countOf, recOf, wordsOf, denoted, unsoundB, tiedB, sharedB}
 use Rattle.layout.specs.Homes.{homesWrites}
-use Rattle.journal.specs.declared.scan.Oldest.{Oldest}
 use Rattle.layout.proofs.Says.{Says, says-lt, says-eq, says-ne, says-and, says-any, says-not, by-case}
-use Rattle.journal.proofs.Least.{Least}
 use Rattle.journal.proofs.LogFacts.{Sound, says-unsound}
-use Rattle.history.specs.Log.{State, busy}
-use Rattle.history.specs.Layout.{body, logOf, view}
-use Rattle.history.proofs.Choice.{Best}
+use Rattle.history.specs.Layout.{body, logOf}
 use Rattle.history.proofs.HomeWrites.{homes-same}
 use Rattle.history.proofs.LogForm.{own-word}
 
@@ -81,54 +71,3 @@ unfolding sharedB
 says-tied f g =
     says-and (says-and (says-ne (f 0) 0) (says-eq (f 0) (g 0)))
     (says-any 4 (λ j. says-and (says-lt j (countOf f)) (says-any 4 (λ i. says-and (says-lt i (countOf g)) (says-eq (recOf g i) (recOf f j))))))
-
--- what layout's oldest log b is where history's stands in slot o; none, where there is none
-abbrev pub Agrees : State → Option ℕ → Oldest → Type 0
-Agrees s none b = b .persist ≡ 0
-Agrees s (some p) b = (b .place ≡ p) × (b .persist ≡ s .number p) × (b .persist ≢ 0)
-
--- each is the least number, at the lowest place that has it
-pub agrees : (s : State) (k : ℕ) (o : Option ℕ) (b : Oldest) → Best s k o → Least (s .number) k b → Agrees s o b
-agrees s k none b c l = go (ℕ-discrete (b .persist) 0)
-  where
-    go : Dec (b .persist ≡ 0) → b .persist ≡ 0
-    go (yes e) = e
-    go (no n) = let r = l .some n in sym (r .1) ∙ c (b .place) (r .0)
-agrees s k (some p) b f l = (same, sym (found .1) ∙ ap (s .number) same, nonzero)
-  where
-    nonzero : b .persist ≢ 0
-    nonzero e = f .found .occupied .1 (l .none e p (f .found .occupied .0))
-
-    found : (b .place < k) × (s .number (b .place) ≡ b .persist)
-    found = l .some nonzero
-
-    taken : s .number (b .place) ≢ 0
-    taken e = nonzero (sym (found .1) ∙ e)
-
-    same : b .place ≡ p
-    same =
-        elim (decLt (b .place) p) [
-          | yes lt ↦ absurd (omega (arith, found .1, f .earlier (b .place) lt taken, l .least p (f .found .occupied .0) (f .found .occupied .1)))
-          | no ge ↦ elim (decLt p (b .place)) [
-            | yes lt ↦ absurd (omega (arith, found .1, l .first nonzero p lt (f .found .occupied .1), f .found .least (b .place) (found .0, taken)))
-            | no le ↦ omega arith
-          ]
-        ]
-
--- the slots' persist numbers
-pub same-numbers : (N : ℕ) (img : List ℕ) → persistAt img N ≡ view N img .number
-same-numbers N img = fun-ext (λ p. rw add-zero)
-
--- how many of the first k slots are occupied
-busy-count : (f : ℕ → ℕ) (k : ℕ) → busy f k ≡ countBelow k (λ p. not (eqb (f p) 0))
-unfolding busy countBelow
-busy-count f zero = refl
-busy-count f (suc k) = go (eqb (f k) 0) (busy-count f k)
-  where
-    go : (b : Bool) → busy f k ≡ countBelow k (λ p. not (eqb (f p) 0))
-        → cond b (busy f k) (suc (busy f k)) ≡ countBelow k (λ p. not (eqb (f p) 0)) + cond (not b) 1 0
-    go true e = omega arith
-    go false e = omega arith
-
-pub same-busy : (N : ℕ) (img : List ℕ) (k : ℕ) → busy (view N img .number) k ≡ countBelow k (occupiedAt img N)
-same-busy N img k = ap (λ f. busy f k) (sym (same-numbers N img)) ∙ busy-count (persistAt img N) k

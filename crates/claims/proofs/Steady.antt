@@ -56,7 +56,7 @@ abbrev pub adds : Bool → ℕ
 adds b = cond b 1 0
 
 -- counts of tests that agree but for i
-count-changed : (p q : ℕ → Bool) (i : ℕ) → ((t : ℕ) → (t ≡ i → ⊥) → p t ≡ q t) → (n : ℕ) → i < n → countBelow n p + adds (q i) ≡ countBelow n q + adds (p i)
+pub count-changed : (p q : ℕ → Bool) (i : ℕ) → ((t : ℕ) → (t ≡ i → ⊥) → p t ≡ q t) → (n : ℕ) → i < n → countBelow n p + adds (q i) ≡ countBelow n q + adds (p i)
 unfolding countBelow
 count-changed p q i same zero l = absurd (not-suc-le-zero l)
 count-changed p q i same (suc n) l =

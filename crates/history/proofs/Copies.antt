@@ -8,11 +8,13 @@ use mathlib.Core.List.{List, [], _∷_}
 use native.Mathlib.Decide.{ℕ-discrete}
 use native.Mathlib.Omega.{arith}
 use lib.ListN.{length, getD}
-use lib.Dec.{T, eqb, eqb→eq, eqb-refl}
+use lib.Dec.{T, T-not, eqb, eqb→eq, eqb-refl}
 use Rattle.history.specs.Log.{In}
 use Rattle.history.specs.Desk.{Copy, find, put, spot, recAt, wordsAt, writes, upd, later, firstOf}
-use Rattle.history.proofs.Choice.{neqb→ne}
 use Rattle.history.proofs.HomeWrites.{homes-placed, homes-in}
+
+pub neqb→ne : (m n : ℕ) → T (not (eqb m n)) → m ≢ n
+neqb→ne m n t e = T-not (eqb m n) t (rw e (eqb-refl n))
 
 -- the copies have record r with the words ws
 abbrev pub Mem : ℕ → List ℕ → List Copy → Type 0

@@ -25,8 +25,7 @@ use Rattle.history.specs.History.{History, sealing}
 use Rattle.history.proofs.Batch.{Words, Fit, cut-words, made-words, made-turned}
 use Rattle.history.proofs.Beside.{Beside, beside-old, beside-back}
 use Rattle.history.proofs.Book.{unseen}
-use Rattle.history.proofs.Choice.{neqb→ne}
-use Rattle.history.proofs.Copies.{word-in, upd-same, upd-other}
+use Rattle.history.proofs.Copies.{neqb→ne, word-in, upd-same, upd-other}
 use Rattle.history.proofs.Invariant.{Active}
 use Rattle.history.proofs.LogForm.{bodyAt, body-denotes, body-sound, log-batch}
 use Rattle.history.proofs.MoveSeal.{seal, place-in}

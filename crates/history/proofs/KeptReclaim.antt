@@ -24,8 +24,7 @@ use Rattle.history.specs.Desk.{spot, Session, idle, active, sealed, publ
 use Rattle.history.specs.Due.{say, lesser, smallest, clearEntries, clears, reclaims, dueOf}
 use Rattle.history.specs.History.{History}
 use Rattle.history.specs.Ledger.{free, choice, candidate, emptied}
-use Rattle.history.proofs.Choice.{neqb→ne}
-use Rattle.history.proofs.Copies.{upd-same, upd-other}
+use Rattle.history.proofs.Copies.{neqb→ne, upd-same, upd-other}
 use Rattle.history.proofs.Invariant.{Fine}
 use Rattle.history.proofs.Places.{slotAt-apart}
 use Rattle.history.proofs.MoveSeal.{place-in, place-apart}

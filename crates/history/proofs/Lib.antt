@@ -5,7 +5,6 @@ pub mod Places
 pub mod HomeWrites
 pub mod LogForm
 pub mod OneStep
-pub mod Choice
 pub mod Theorems
 pub mod Writes
 pub mod Beside

@@ -71,9 +71,6 @@ module _ (N M : ℕ) (img : List ℕ) (d : Desk) (h : History) (H : Holds N M im
             go (some ws) f t = absurd t
     by-holder (some t) g = go (shownTo b (d .session t)) refl (find r (copies (d .session t))) (find? r (copies (d .session t))) (g .passes)
       where
-        copies-of : List Copy
-        copies-of = copies (d .session t)
-
         go : (z : Bool) → shownTo b (d .session t) ≡ z → (o : Option (List ℕ)) → Found r (copies (d .session t)) o → T (found o)
             → looked (find r (cond z (copies (d .session t)) [])) (homeWords img r) ≡ readsOther z (viewAt h b r) .answer
         go z e none f p = absurd p
