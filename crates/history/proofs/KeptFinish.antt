@@ -109,49 +109,49 @@ module _ (N M : ℕ) (img : List ℕ) (d : Desk) (h : History) (H : Holds N M im
 
     sealed-done : Done N M img d h (finish len s) (record { answer = sealedAt (d .clock); entries = batch (bodyAt (slotAt N (placeOf s q)) cs) (slotAt N (placeOf s q)) (d .clock) })
     sealed-done = record {
-      kept = rw is (go₁ (ws₁ .turn));
+      kept = rw is (kept-by (finished-words .turn));
       later = record { clock = omega arith; views = λ σ r k. unseen σ r (h .sealed) s (h .draft s) (h .opening r) };
       marks = λ p. rw is (mark p (ℕ-discrete p (placeOf s q)));
-      low = λ j lj. below-home img₁ ws₁ j lj;
+      low = λ j lj. below-home finished finished-words j lj;
       low-cut = λ k sel j lj. below-home _ (cut-words _ (slotAt N (placeOf s q)) (d .clock) img fit k sel) j lj;
-      broken = λ k sel. go₂ k sel (cut-words _ (slotAt N (placeOf s q)) (d .clock) img fit k sel);
+      broken = λ k sel. cut-by k sel (cut-words _ (slotAt N (placeOf s q)) (d .clock) img fit k sel);
     }
       where
-        img₁ : List ℕ
-        img₁ = made (batch (bodyAt (slotAt N (placeOf s q)) cs) (slotAt N (placeOf s q)) (d .clock)) img
+        finished : List ℕ
+        finished = made (batch (bodyAt (slotAt N (placeOf s q)) cs) (slotAt N (placeOf s q)) (d .clock)) img
 
-        ws₁ : Words (bodyAt (slotAt N (placeOf s q)) cs) (slotAt N (placeOf s q)) (d .clock) img img₁
-        ws₁ = made-words _ (slotAt N (placeOf s q)) (d .clock) img fit
+        finished-words : Words (bodyAt (slotAt N (placeOf s q)) cs) (slotAt N (placeOf s q)) (d .clock) img finished
+        finished-words = made-words _ (slotAt N (placeOf s q)) (d .clock) img fit
 
-        turned : getD img₁ (slotAt N (placeOf s q)) 0 ≡ d .clock
+        turned : getD finished (slotAt N (placeOf s q)) 0 ≡ d .clock
         turned = made-turned _ (slotAt N (placeOf s q)) (d .clock) img fit (omega (arith, H .whole, inside))
 
-        mark : (p : ℕ) → Dec (p ≡ placeOf s q) → getD img₁ (slotAt N p) 0 ≡ upd (placeOf s q) (d .clock) (view N img .number) p
+        mark : (p : ℕ) → Dec (p ≡ placeOf s q) → getD finished (slotAt N p) 0 ≡ upd (placeOf s q) (d .clock) (view N img .number) p
         mark p (yes e) = rw (e, upd-same (placeOf s q) (d .clock) (view N img .number)) turned
-        mark p (no n) = rw (upd-other (placeOf s q) (d .clock) (view N img .number) p n) (numbers img₁ ws₁ p n)
+        mark p (no n) = rw (upd-other (placeOf s q) (d .clock) (view N img .number) p n) (numbers finished finished-words p n)
 
-        go₁ : (getD img₁ (slotAt N (placeOf s q)) 0 ≡ getD img (slotAt N (placeOf s q)) 0)
-            ⊎ ((getD img₁ (slotAt N (placeOf s q)) 0 ≡ d .clock) × ((i w : ℕ) → In i w (bodyAt (slotAt N (placeOf s q)) cs) → getD img₁ i 0 ≡ w))
-            → Holds N M img₁ (withSession s (sealed (d .clock) q cs) d) (sealing s h)
-        go₁ (inl e) = absurd (omega (arith, H .inv .positive, turned, e, vacant))
-        go₁ (inr c) = has img₁ ws₁ (c .0) (c .1)
+        kept-by : (getD finished (slotAt N (placeOf s q)) 0 ≡ getD img (slotAt N (placeOf s q)) 0)
+            ⊎ ((getD finished (slotAt N (placeOf s q)) 0 ≡ d .clock) × ((i w : ℕ) → In i w (bodyAt (slotAt N (placeOf s q)) cs) → getD finished i 0 ≡ w))
+            → Holds N M finished (withSession s (sealed (d .clock) q cs) d) (sealing s h)
+        kept-by (inl e) = absurd (omega (arith, H .inv .positive, turned, e, vacant))
+        kept-by (inr c) = has finished finished-words (c .0) (c .1)
 
-        go₂ : (k : ℕ) (sel : ℕ → Bool)
+        cut-by : (k : ℕ) (sel : ℕ → Bool)
             → Words (bodyAt (slotAt N (placeOf s q)) cs) (slotAt N (placeOf s q)) (d .clock) img (cut k sel (batch (bodyAt (slotAt N (placeOf s q)) cs) (slotAt N (placeOf s q)) (d .clock)) img)
             → Crashed N M (cut k sel (batch (bodyAt (slotAt N (placeOf s q)) cs) (slotAt N (placeOf s q)) (d .clock)) img)
             (feedCut N d (finish len s) (sealedAt (d .clock)) (cut k sel (batch (bodyAt (slotAt N (placeOf s q)) cs) (slotAt N (placeOf s q)) (d .clock)) img) h)
-        go₂ k sel ws = rw is (at (eqb (getD img₂ (slotAt N (placeOf s q)) 0) (d .clock)) (eqb→eq _ (d .clock)) (neqb→ne _ (d .clock)) (ws .turn))
+        cut-by k sel ws = rw is (at (eqb (getD left (slotAt N (placeOf s q)) 0) (d .clock)) (eqb→eq _ (d .clock)) (neqb→ne _ (d .clock)) (ws .turn))
           where
-            img₂ : List ℕ
-            img₂ = cut k sel (batch (bodyAt (slotAt N (placeOf s q)) cs) (slotAt N (placeOf s q)) (d .clock)) img
+            left : List ℕ
+            left = cut k sel (batch (bodyAt (slotAt N (placeOf s q)) cs) (slotAt N (placeOf s q)) (d .clock)) img
 
-            at : (t : Bool) → (T t → getD img₂ (slotAt N (placeOf s q)) 0 ≡ d .clock) → (T (not t) → getD img₂ (slotAt N (placeOf s q)) 0 ≢ d .clock)
-                → (getD img₂ (slotAt N (placeOf s q)) 0 ≡ getD img (slotAt N (placeOf s q)) 0)
-                ⊎ ((getD img₂ (slotAt N (placeOf s q)) 0 ≡ d .clock) × ((i w : ℕ) → In i w (bodyAt (slotAt N (placeOf s q)) cs) → getD img₂ i 0 ≡ w))
-                → Crashed N M img₂ (cond t (sealing s h) h)
+            at : (t : Bool) → (T t → getD left (slotAt N (placeOf s q)) 0 ≡ d .clock) → (T (not t) → getD left (slotAt N (placeOf s q)) 0 ≢ d .clock)
+                → (getD left (slotAt N (placeOf s q)) 0 ≡ getD img (slotAt N (placeOf s q)) 0)
+                ⊎ ((getD left (slotAt N (placeOf s q)) 0 ≡ d .clock) × ((i w : ℕ) → In i w (bodyAt (slotAt N (placeOf s q)) cs) → getD left i 0 ≡ w))
+                → Crashed N M left (cond t (sealing s h) h)
             at true y n (inl e) = absurd (omega (arith, H .inv .positive, y tt, e, vacant))
-            at true y n (inr c) = crashed N M img₂ _ _ (has img₂ ws (c .0) (c .1))
-            at false y n (inl e) = not-yet img₂ ws (e ∙ vacant)
+            at true y n (inr c) = crashed N M left _ _ (has left ws (c .0) (c .1))
+            at false y n (inl e) = not-yet left ws (e ∙ vacant)
             at false y n (inr c) = absurd (n tt (c .0))
 
   finish-at : s < M → (x : Session) → d .session s ≡ x → Done N M img d h (finish len s) (finishes N (d .clock) s x)
