@@ -17,7 +17,7 @@ use Rattle.layout.specs.Entries.{Entry, store, fence, made, endsFenced}
 use Rattle.layout.specs.Homes.{homesWrites}
 use Rattle.layout.specs.Image.{shapedB, occupiedB, slotAt}
 use Rattle.layout.specs.Lay.{emptyImage}
-use Rattle.layout.specs.Told.{Told, ok, start, home, wait, held, clean, replayed, codeTold, isRefusal, wordsOf}
+use Rattle.layout.specs.Told.{Told, ok, start, home, wait, held, clean, replayed, codeTold, isRefusal, wordsTold}
 use Rattle.layout.proofs.Says.{by-test}
 use Rattle.journal.specs.Log.{bodyWrites, unsoundB, sharedB}
 use Rattle.journal.specs.Oldest.{oldestOf}
@@ -32,7 +32,7 @@ use Rattle.recovery.specs.Open.{openFault, openReply}
 use Rattle.recovery.specs.Recover.{unsoundPlace, tiedBelow, tiesB, recoverFault, firstLog, recoverRefused, recoverReply, recoverEntries}
 use Rattle.history.specs.Call.{Call, begin, read, write, finish, publish, settle, reclaim}
 use Rattle.history.specs.Desk.{Copy, idle, sealed, Desk as Txns, upd, firstOf, holder}
-use Rattle.history.specs.Due.{clockLimit, smallest, due}
+use Rattle.history.specs.Due.{smallest, due}
 use Rattle.history.specs.Cut.{feedCut}
 use Rattle.history.specs.History.{History, feed}
 use Rattle.history.specs.Ledger.{Ledger, note}
@@ -100,7 +100,7 @@ after : List Call → World
 after calls = run storeRules calls (opened storeRules image)
 
 expected : List Call → Seen
-unfolding allBelow anyBelow countBelow lowest first answered shapedB occupiedB homesWrites bodyWrites unsoundB sharedB oldestOf openFault openReply unsoundPlace tiedBelow tiesB recoverFault firstLog recoverRefused recoverReply recoverEntries note due clockLimit smallest reply upd firstOf seen due-stored replays afterAttempts clearing
+unfolding allBelow anyBelow countBelow lowest first answered shapedB occupiedB homesWrites bodyWrites unsoundB sharedB oldestOf openFault openReply unsoundPlace tiedBelow tiesB recoverFault firstLog recoverRefused recoverReply recoverEntries note due smallest reply upd firstOf seen due-stored replays afterAttempts clearing
 expected calls = seen calls (record { image = image; ledger = openLedger image })
 
 after-is : (calls : List Call) → run storeRules calls (opened storeRules image) ≡ after calls
@@ -152,8 +152,8 @@ module _ (R : Rules) where
 unlike-told : {t u : Told} → t ≡ u → eqb (codeTold t) (codeTold u) ≡ false → ⊥
 unlike-told e b = eqb-false _ _ b (ap codeTold e)
 
-unlike-words : {t u : Told} → t ≡ u → eqb (getD (wordsOf t) 0 0) (getD (wordsOf u) 0 0) ≡ false → ⊥
-unlike-words e b = eqb-false _ _ b (ap (λ (t : Told). getD (wordsOf t) 0 0) e)
+unlike-words : {t u : Told} → t ≡ u → eqb (getD (wordsTold t) 0 0) (getD (wordsTold u) 0 0) ≡ false → ⊥
+unlike-words e b = eqb-false _ _ b (ap (λ (t : Told). getD (wordsTold t) 0 0) e)
 
 -- a call of the kind that is changed, where the store does not refuse it
 changed : (kind : ℕ) (change : Change) (calls : List Call) (c : Call) → eqb (kindOf c) kind ≡ true → isRefusal (due 2 2 (expected calls .ledger) c .answer) ≡ false

@@ -28,13 +28,13 @@ use Rattle.recovery.specs.Told.{recoverTold}
 use Rattle.recovery.specs.declared.recovering.RecoverReply.{RecoverReply}
 use Rattle.history.specs.Log.{Occupied, Puts, Clean, Oldest}
 use Rattle.history.specs.Layout.{body, logOf, view, Good}
-use Rattle.history.specs.Recover.{applied, Attempt, whole as to-end, broken as cut-off, run as attemptWith}
+use Rattle.history.specs.Recover.{replayAt, Reach, whole as to-end, broken as cut-off, reached}
 use Rattle.history.proofs.Cuts.{made-append, crash-behind, arrived-all, ends-append}
 use Rattle.history.proofs.LogForm.{denoted-first}
 use Rattle.history.proofs.Places.{slotAt-apart}
 use Rattle.history.proofs.Theorems.{Carries, step-carries, step-elsewhere, step-empties}
 use Rattle.claims.specs.Rules.{storeRules}
-use Rattle.claims.specs.Recovery.{replays, afterCalls, afterStop, Attempt as Try, afterAttempt, afterAttempts, afterWhole, Ends}
+use Rattle.claims.specs.Recovery.{replays, afterCalls, afterStop, Attempt, afterAttempt, afterAttempts, afterWhole, Ends}
 use Rattle.claims.proofs.Lists.{lists}
 use Rattle.claims.proofs.SameLog.{same-count, same-rec, same-log, same-sound, sound-passes, Tied, says-tied}
 use Rattle.claims.proofs.Steady.{count-changed}
@@ -154,7 +154,7 @@ module _ (N M : ℕ) (img : List ℕ) (len : ℕ) (w : Whole N M img) (g : Good 
   clean-tells room e = tells-done room ∙ rw (eq-eqb _ _ e)
 
   -- else the oldest log is applied, and "replayed"
-  log-entries : 48 ≤ len → Oldest (2 * M) (view N img) (firstLog img .place) → firstLog img .persist ≢ 0 → recoverEntries img len ≡ applied N img (firstLog img .place)
+  log-entries : 48 ≤ len → Oldest (2 * M) (view N img) (firstLog img .place) → firstLog img .persist ≢ 0 → recoverEntries img len ≡ replayAt N img (firstLog img .place)
   log-entries room o n = lists-done room ∙ rw (ne-eqb _ _ n, w .records, ← same-log N img (firstLog img .place) (g .sound (firstLog img .place) (o .occupied) .at-most))
 
   log-tells : 48 ≤ len → firstLog img .persist ≢ 0 → storeRules .recover img len .told ≡ replayed (firstLog img .persist)
@@ -204,7 +204,7 @@ follows-then p q =
 
 module _ (N M : ℕ) (img : List ℕ) (w : Whole N M img) (g : Good N M img) where
   -- a step, whole or broken off anywhere, keeps header and length
-  step-follows : (p : ℕ) → Oldest (2 * M) (view N img) p → (a : Attempt) → Follows N M img (attemptWith a (applied N img p) img)
+  step-follows : (p : ℕ) → Oldest (2 * M) (view N img) p → (a : Reach) → Follows N M img (reached a (replayAt N img p) img)
   step-follows p o a =
       record {
         whole = whole-again N M img _ w (λ j l. step-elsewhere N M img g p o a j (λ h. omega arith) (λ e. omega arith)) (step-carries N M img g p o a .good .whole);
@@ -212,18 +212,18 @@ module _ (N M : ℕ) (img : List ℕ) (w : Whole N M img) (g : Good N M img) whe
       }
 
   -- a call, whole or broken off anywhere, with a trace of any length
-  pub call-follows : (len : ℕ) (a : Attempt) → Follows N M img (attemptWith a (recoverEntries img len) img)
+  pub call-follows : (len : ℕ) (a : Reach) → Follows N M img (reached a (recoverEntries img len) img)
   call-follows len a = go (decLt len 48)
     where
-      nothing : (a : Attempt) → attemptWith a [] img ≡ img
+      nothing : (a : Reach) → reached a [] img ≡ img
       nothing to-end = refl
       nothing (cut-off k sel) = rw (take-nil {A = Entry} k) refl
 
-      by-log : 48 ≤ len → Finds N M img w g → Follows N M img (attemptWith a (recoverEntries img len) img)
+      by-log : 48 ≤ len → Finds N M img w g → Follows N M img (reached a (recoverEntries img len) img)
       by-log room (inl c) = rw (clean-entries N M img len w g room (c .1), nothing a) (follows-self N M img w g)
       by-log room (inr o) = rw (log-entries N M img len w g room (o .0) (o .1)) (step-follows (firstLog img .place) (o .0) a)
 
-      go : Dec (len < 48) → Follows N M img (attemptWith a (recoverEntries img len) img)
+      go : Dec (len < 48) → Follows N M img (reached a (recoverEntries img len) img)
       go (yes l) = rw (short-entries N M img len w g l, nothing a) (follows-self N M img w g)
       go (no n) = by-log (omega arith) (finds N M img w g)
 
@@ -258,14 +258,14 @@ calls-more (l ∷ lens) len img =
 
 -- ---- attempts
 
-pub attempt-follows : (N M : ℕ) (a : Try) (img : List ℕ) → Whole N M img → Good N M img → Follows N M img (afterAttempt storeRules a img)
+pub attempt-follows : (N M : ℕ) (a : Attempt) (img : List ℕ) → Whole N M img → Good N M img → Follows N M img (afterAttempt storeRules a img)
 unfolding afterAttempt
 attempt-follows N M a img w g =
     let b = calls-follow N M (a .whole) img w g in
     let c = crash-behind (a .entries) (a .arrives) (replays storeRules (a .whole) img) (recoverEntries (afterCalls storeRules (a .whole) img) (a .last)) img (replays-fenced (a .whole) img) in
     rw (c .1) (follows-then b (call-follows N M (afterCalls storeRules (a .whole) img) (b .whole) (b .carries .good) (a .last) (cut-off (a .entries) (c .0))))
 
-pub attempts-follow : (N M : ℕ) (attempts : List Try) (img : List ℕ) → Whole N M img → Good N M img → Follows N M img (afterAttempts storeRules attempts img)
+pub attempts-follow : (N M : ℕ) (attempts : List Attempt) (img : List ℕ) → Whole N M img → Good N M img → Follows N M img (afterAttempts storeRules attempts img)
 unfolding afterAttempts
 attempts-follow N M [] img w g = follows-self N M img w g
 attempts-follow N M (a ∷ rest) img w g =
@@ -307,7 +307,7 @@ module _ (N M : ℕ) (x : ℕ → ℕ) (img : List ℕ) (w : Whole N M img) (g :
         let d = rw (a, b) at c in
         omega (arith, d)
       where
-        listed : recoverEntries img (48 + x 0) ≡ applied N img (firstLog img .place)
+        listed : recoverEntries img (48 + x 0) ≡ replayAt N img (firstLog img .place)
         listed = log-entries N M img (48 + x 0) w g (omega arith) o n
 
         emptied : getD next (slotAt N (firstLog img .place)) 0 ≡ 0

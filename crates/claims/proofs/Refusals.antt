@@ -49,7 +49,7 @@ use Rattle.history.specs.Call.{Call, begin, read, write, abandon, finish, publi
 use Rattle.claims.proofs.Lists.{lists}
 use Rattle.claims.proofs.Rows.{desk-row, lay-row, open-row, recover-row, finish-row, settle-row, reclaim-row, read-row, write-row}
 use Rattle.claims.specs.Rules.{storeRules}
-use Rattle.claims.specs.Refusals.{Cause, number, holds, Given, firstOf, recoverRow, row, ofImage, given, only, TurnedAway, StoresNothing, Refusals}
+use Rattle.claims.specs.Refusals.{Cause, number, holds, Given, firstRefusal, recoverRow, row, ofImage, given, only, TurnedAway, StoresNothing, Refusals}
 
 -- a call whose fault is k: its refusal by k tells k and this value and leaves what is to be kept, and past its checks it refuses nothing
 turned : {A B : Type 0} (told : B → Told) (left : B → A) (refusal : ℕ → B) (done : B) {fault k value : ℕ} {kept : A} → fault ≡ k
@@ -84,29 +84,29 @@ abbrev sparing : List Cause → Bool
 sparing [] = true
 sparing (c ∷ row) = not (eqb (number c) 7) && sparing row
 
-not-seven : (row : List Cause) (g : Given) → sparing row ≡ true → eqb (firstOf row g) 7 ≡ false
-unfolding firstOf
+not-seven : (row : List Cause) (g : Given) → sparing row ≡ true → eqb (firstRefusal row g) 7 ≡ false
+unfolding firstRefusal
 not-seven [] g e = refl
 not-seven (c ∷ row) g e =
     let h = says-and (says-itself (not (eqb (number c) 7))) (says-itself (sparing row)) .yes e in go (holds c g) (h .0) (not-seven row g (h .1))
   where
-    go : (b : Bool) → not (eqb (number c) 7) ≡ true → eqb (firstOf row g) 7 ≡ false → eqb (cond b (number c) (firstOf row g)) 7 ≡ false
+    go : (b : Bool) → not (eqb (number c) 7) ≡ true → eqb (firstRefusal row g) 7 ≡ false → eqb (cond b (number c) (firstRefusal row g)) 7 ≡ false
     go true x y = not-true _ x
     go false x y = y
 
 -- what the claim says of a session call
 abbrev CallTurned : List ℕ → Desk → Call → Told → Desk → Type 0
 CallTurned img d c told left =
-    TurnedAway told (firstOf (row c) (given img d c)) (only 7 (markAt d (given img d c .rec) - 1) 0 (firstOf (row c) (given img d c)))
-    left (only 7 (dropped d (given img d c .session)) d (firstOf (row c) (given img d c)))
+    TurnedAway told (firstRefusal (row c) (given img d c)) (only 7 (markAt d (given img d c .rec) - 1) 0 (firstRefusal (row c) (given img d c)))
+    left (only 7 (dropped d (given img d c .session)) d (firstRefusal (row c) (given img d c)))
 
 -- a session call without refusal 7: its refusals have no value and leave the desk
 plain : {B : Type 0} (img : List ℕ) (d : Desk) (c : Call) (told : B → Told) (left : B → Desk) (refusing : ℕ → B) (done : B) {fault : ℕ}
-    → fault ≡ firstOf (row c) (given img d c) → sparing (row c) ≡ true
+    → fault ≡ firstRefusal (row c) (given img d c) → sparing (row c) ≡ true
     → ((k : ℕ) → told (refusing k) ≡ refusal k) → ((k : ℕ) → left (refusing k) ≡ d) → isRefusal (told done) ≡ false
     → CallTurned img d c (told (answered fault refusing done)) (left (answered fault refusing done))
 plain img d c told left refusing done e free t l z =
-    let k = firstOf (row c) (given img d c) in
+    let k = firstRefusal (row c) (given img d c) in
     rw (not-seven (row c) (given img d c) free) (turned told left refusing done e (t k) (l k) z)
 
 -- by the laws of the lists
@@ -141,7 +141,7 @@ calls img d (read s r) =
     (either told (ltb (ownPlace (sessionAt d s) r) 4) _ _ refl (either told (copyShown d (startOf (sessionAt d s .phase)) r) _ _ refl refl))
 calls img d (write s r ws) =
     let told : WriteReply → Told = λ x. writeTold (x .answer) in
-    let k = firstOf (row (write s r ws)) (given img d (write s r ws)) in
+    let k = firstRefusal (row (write s r ws)) (given img d (write s r ws)) in
     turned told (λ x. x .desk) (writeRefused d s r) (writeDone img d s r ws) (write-row img d s r ws)
     (valued told 7 (markAt d r - 1) _ (λ k. writeSays d (WriteRefused k)) refl (λ k. refl) k) (by-test (eqb k 7) (λ e. rw e) (λ e. rw e)) refl
 calls img d (finish len s) =
@@ -157,7 +157,7 @@ calls img d (reclaim len s) =
     plain img d (reclaim len s) told (λ r. r .desk) (reclaimRefused d) (reclaimDone img d s) (reclaim-row img d len s) refl (λ k. refl) (λ k. refl)
     (either told (noneLeft img d s) _ _ refl (either told (heldB img d s) _ _ refl refl))
 
-calls-store : (img : List ℕ) (d : Desk) (c : Call) → (firstOf (row c) (given img d c) ≡ 0 → ⊥)
+calls-store : (img : List ℕ) (d : Desk) (c : Call) → (firstRefusal (row c) (given img d c) ≡ 0 → ⊥)
     → StoresNothing (storeRules .call img d c .count) (storeRules .call img d c .entries)
 calls-store img d (begin s) n = no-stores
 calls-store img d (read s r) n = no-stores
@@ -178,7 +178,7 @@ refusals =
       opens = λ img. turned open-told (λ r. r .desk) openRefused (opened img) (open-row img) refl refl refl;
       calls = calls;
       recover = λ img len.
-          let k = firstOf recoverRow (ofImage img len 0 0) in
+          let k = firstRefusal recoverRow (ofImage img len 0 0) in
           leaving
           (turned recover-told (λ r. img) (recoverRefused img) (recoverDone img) (recover-row img len)
           (valued recover-told 12 (unsoundPlace img) _ (λ k. record { answer = RecoverRefused k; entries = 0 }) refl (λ k. refl) k)

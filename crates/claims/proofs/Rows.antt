@@ -34,7 +34,7 @@ use Rattle.recovery.specs.Recover.{slotsOf, unsoundPlace, tiedBelow, tiesB, rec
 use Rattle.history.specs.Call.{read, write, finish, settle, reclaim}
 use Rattle.claims.specs.Refusals.{Cause, wrongImage, wrongLength, incoherent, otherSize, shortTrace, noSession, noRecord, wrongPhase}
 use Rattle.claims.specs.Refusals.{otherHolds, fifthRecord, slotsFull, clockAtLimit, slotOccupied, logUnsound, logsTied, outOfRange}
-use Rattle.claims.specs.Refusals.{Given, number, markedOwn, unsoundAt, tiedAt, holds, firstOf, layRow, openRow, recoverRow, row, ofImage, ofCall, given}
+use Rattle.claims.specs.Refusals.{Given, number, markedOwn, unsoundAt, tiedAt, holds, firstRefusal, layRow, openRow, recoverRow, row, ofImage, ofCall, given}
 use Rattle.claims.proofs.Abstraction.{lowest-is}
 
 -- ---- checks and rows
@@ -61,28 +61,28 @@ refuses outOfRange rest = refl
 
 module _ (g : Given) where
   -- a check is a row of one cause
-  asks : (c : Cause) (b : Bool) → holds c g ≡ not b → unless b (number c) ≡ firstOf (c ∷ []) g
-  unfolding firstOf
+  asks : (c : Cause) (b : Bool) → holds c g ≡ not b → unless b (number c) ≡ firstRefusal (c ∷ []) g
+  unfolding firstRefusal
   asks c true e = rw e
   asks c false e = rw e
 
   -- a row in two parts
-  rows : (xs ys : List Cause) → firstOf (xs ++ ys) g ≡ first (firstOf xs g) (firstOf ys g)
-  unfolding firstOf first
+  rows : (xs ys : List Cause) → firstRefusal (xs ++ ys) g ≡ first (firstRefusal xs g) (firstRefusal ys g)
+  unfolding firstRefusal first
   rows [] ys = refl
   rows (c ∷ xs) ys = go (holds c g) (rows xs ys)
     where
-      go : (b : Bool) → firstOf (xs ++ ys) g ≡ first (firstOf xs g) (firstOf ys g)
-          → cond b (number c) (firstOf (xs ++ ys) g) ≡ first (cond b (number c) (firstOf xs g)) (firstOf ys g)
-      go true e = sym (refuses c (firstOf ys g))
+      go : (b : Bool) → firstRefusal (xs ++ ys) g ≡ first (firstRefusal xs g) (firstRefusal ys g)
+          → cond b (number c) (firstRefusal (xs ++ ys) g) ≡ first (cond b (number c) (firstRefusal xs g)) (firstRefusal ys g)
+      go true e = sym (refuses c (firstRefusal ys g))
       go false e = e
 
   -- checks one after the other; the later ones count only where the first ones pass
-  joined : (xs ys : List Cause) {a b : ℕ} → a ≡ firstOf xs g → (a ≡ 0 → b ≡ firstOf ys g) → first a b ≡ firstOf (xs ++ ys) g
+  joined : (xs ys : List Cause) {a b : ℕ} → a ≡ firstRefusal xs g → (a ≡ 0 → b ≡ firstRefusal ys g) → first a b ≡ firstRefusal (xs ++ ys) g
   unfolding first
   joined xs ys {a} {b} e f = go a e f ∙ sym (rows xs ys)
     where
-      go : (a : ℕ) → a ≡ firstOf xs g → (a ≡ 0 → b ≡ firstOf ys g) → first a b ≡ first (firstOf xs g) (firstOf ys g)
+      go : (a : ℕ) → a ≡ firstRefusal xs g → (a ≡ 0 → b ≡ firstRefusal ys g) → first a b ≡ first (firstRefusal xs g) (firstRefusal ys g)
       go zero e f = rw (← e) (f refl)
       go (suc k) e f = rw (← e)
 
@@ -114,7 +114,7 @@ none-found p n =
 
 -- begin, abandon and publish: checks 2, 4 and 6
 pub desk-row : (img : List ℕ) (d : Desk) (s : ℕ) (allows : Phase → Bool)
-    → first (deskFault d s) (unless (allows (sessionAt d s .phase)) 6) ≡ firstOf (incoherent ∷ noSession ∷ wrongPhase ∷ []) (ofCall img d 0 s 0 allows)
+    → first (deskFault d s) (unless (allows (sessionAt d s .phase)) 6) ≡ firstRefusal (incoherent ∷ noSession ∷ wrongPhase ∷ []) (ofCall img d 0 s 0 allows)
 unfolding sessionFault holds
 desk-row img d s allows =
     let g = ofCall img d 0 s 0 allows in
@@ -128,7 +128,7 @@ module _ (img : List ℕ) (d : Desk) (len s r : ℕ) (allows : Phase → Bool) w
   g = ofCall img d len s r allows
 
   -- check 2 has two causes
-  coherent-row : unless (coherentB d && eqb (d .n) (recordsOf img) && eqb (d .m) (sessionsOf img)) 2 ≡ firstOf (incoherent ∷ otherSize ∷ []) g
+  coherent-row : unless (coherentB d && eqb (d .n) (recordsOf img) && eqb (d .m) (sessionsOf img)) 2 ≡ firstRefusal (incoherent ∷ otherSize ∷ []) g
   unfolding holds first
   coherent-row =
       go (coherentB d) (eqb (d .n) (recordsOf img)) (eqb (d .m) (sessionsOf img))
@@ -140,8 +140,8 @@ module _ (img : List ℕ) (d : Desk) (len s r : ℕ) (allows : Phase → Bool) w
       go false b c = refl
 
   -- xs is the cause of check 3, of a call that makes it
-  image-row : (room : Bool) (xs : List Cause) → unless room 3 ≡ firstOf xs g
-      → imageFault img d room s ≡ firstOf (wrongImage ∷ incoherent ∷ otherSize ∷ (xs ++ (noSession ∷ []))) g
+  image-row : (room : Bool) (xs : List Cause) → unless room 3 ≡ firstRefusal xs g
+      → imageFault img d room s ≡ firstRefusal (wrongImage ∷ incoherent ∷ otherSize ∷ (xs ++ (noSession ∷ []))) g
   unfolding entryFault holds
   image-row room xs e =
       joined g (wrongImage ∷ []) (incoherent ∷ otherSize ∷ (xs ++ (noSession ∷ []))) (asks g wrongImage (shapedB img) refl)
@@ -149,34 +149,34 @@ module _ (img : List ℕ) (d : Desk) (len s r : ℕ) (allows : Phase → Bool) w
       (λ z. joined g xs (noSession ∷ []) e (λ z. asks g noSession (ltb s (d .m)) (leb-not (d .m) s))))
 
   -- finish, settle and reclaim: checks 1 to 4
-  traced-row : imageFault img d (roomFor len) s ≡ firstOf (wrongImage ∷ incoherent ∷ otherSize ∷ shortTrace ∷ noSession ∷ []) g
+  traced-row : imageFault img d (roomFor len) s ≡ firstRefusal (wrongImage ∷ incoherent ∷ otherSize ∷ shortTrace ∷ noSession ∷ []) g
   unfolding holds
   traced-row = image-row (roomFor len) (shortTrace ∷ []) (asks g shortTrace (roomFor len) (room-not len))
 
   -- read and write: checks 1, 2, 4 and 5
-  record-row : recordFault img d s r ≡ firstOf (wrongImage ∷ incoherent ∷ otherSize ∷ noSession ∷ noRecord ∷ []) g
-  unfolding firstOf holds
+  record-row : recordFault img d s r ≡ firstRefusal (wrongImage ∷ incoherent ∷ otherSize ∷ noSession ∷ noRecord ∷ []) g
+  unfolding firstRefusal holds
   record-row =
       joined g (wrongImage ∷ incoherent ∷ otherSize ∷ noSession ∷ []) (noRecord ∷ []) (image-row true [] refl)
       (λ z. asks g noRecord (ltb r (d .n)) (leb-not (d .n) r))
 
 -- ---- the calls
 
-pub lay-row : (n m : ℕ) (img : List ℕ) → layFault n m (length img) ≡ firstOf layRow (ofImage img 0 n m)
+pub lay-row : (n m : ℕ) (img : List ℕ) → layFault n m (length img) ≡ firstRefusal layRow (ofImage img 0 n m)
 unfolding layFault holds
 lay-row n m img =
     let g = ofImage img 0 n m in
     joined g (outOfRange ∷ []) (wrongLength ∷ []) (asks g outOfRange (inRange n m) refl)
     (λ z. asks g wrongLength (eqb (length img) (sizeOf n m)) refl)
 
-pub open-row : (img : List ℕ) → openFault img ≡ firstOf openRow (ofImage img 0 0 0)
+pub open-row : (img : List ℕ) → openFault img ≡ firstRefusal openRow (ofImage img 0 0 0)
 unfolding openFault holds
 open-row img =
     let g = ofImage img 0 0 0 in
     joined g (wrongImage ∷ []) (slotOccupied ∷ []) (asks g wrongImage (shapedB img) refl)
     (λ z. asks g slotOccupied (not (occupiedB img (recordsOf img) (slotsOf img))) (sym (Bool·not-not _)))
 
-pub recover-row : (img : List ℕ) (len : ℕ) → recoverFault img len ≡ firstOf recoverRow (ofImage img len 0 0)
+pub recover-row : (img : List ℕ) (len : ℕ) → recoverFault img len ≡ firstRefusal recoverRow (ofImage img len 0 0)
 unfolding recoverFault unsoundPlace tiesB tiedBelow holds
 recover-row img len =
     let g = ofImage img len 0 0 in
@@ -186,7 +186,7 @@ recover-row img len =
     (asks g logUnsound (eqb (lowest (slotsOf img) (unsoundAt img)) (slotsOf img)) (none-found (unsoundAt img) (slotsOf img)))
     (λ z. asks g logsTied (not (anyBelow (slotsOf img) (λ p. anyBelow p (tiedAt img p)))) (sym (Bool·not-not _)))))
 
-pub finish-row : (img : List ℕ) (d : Desk) (len s : ℕ) → finishFault img d len s ≡ firstOf (row (finish len s)) (given img d (finish len s))
+pub finish-row : (img : List ℕ) (d : Desk) (len s : ℕ) → finishFault img d len s ≡ firstRefusal (row (finish len s)) (given img d (finish len s))
 unfolding finishFault holds
 finish-row img d len s =
     let g = given img d (finish len s) in
@@ -196,18 +196,18 @@ finish-row img d len s =
     (λ z. asks g clockAtLimit (eqb (sessionAt d s .count) 0 || ltb (d .clock) limit)
     (or-not (eqb (sessionAt d s .count) 0) (ltb (d .clock) limit) (leb limit (d .clock)) (leb-not limit (d .clock)))))
 
-pub settle-row : (img : List ℕ) (d : Desk) (len s : ℕ) → settleFault img d len s ≡ firstOf (row (settle len s)) (given img d (settle len s))
+pub settle-row : (img : List ℕ) (d : Desk) (len s : ℕ) → settleFault img d len s ≡ firstRefusal (row (settle len s)) (given img d (settle len s))
 unfolding settleFault holds
 settle-row img d len s =
     let g = given img d (settle len s) in
     joined g (wrongImage ∷ incoherent ∷ otherSize ∷ shortTrace ∷ noSession ∷ []) (wrongPhase ∷ []) (traced-row img d len s 0 isPublished)
     (λ z. asks g wrongPhase (isPublished (sessionAt d s .phase)) refl)
 
-pub reclaim-row : (img : List ℕ) (d : Desk) (len s : ℕ) → reclaimFault img d len s ≡ firstOf (row (reclaim len s)) (given img d (reclaim len s))
+pub reclaim-row : (img : List ℕ) (d : Desk) (len s : ℕ) → reclaimFault img d len s ≡ firstRefusal (row (reclaim len s)) (given img d (reclaim len s))
 unfolding reclaimFault
 reclaim-row img d len s = traced-row img d len s 0 (λ p. true)
 
-pub read-row : (img : List ℕ) (d : Desk) (s r : ℕ) → readFault img d s r ≡ firstOf (row (read s r)) (given img d (read s r))
+pub read-row : (img : List ℕ) (d : Desk) (s r : ℕ) → readFault img d s r ≡ firstRefusal (row (read s r)) (given img d (read s r))
 unfolding readFault holds
 read-row img d s r =
     let g = given img d (read s r) in
@@ -245,14 +245,14 @@ module _ (img : List ℕ) (d : Desk) (s r : ℕ) (h : RecordEntered img d s r) w
 
   -- checks 7 to 9, which are not made of a record that the session copies
   copy-row : cond (ownsB d s r) 0 (copyFault (markAt d r) (e .count) (emptySlot img (d .n) s))
-      ≡ firstOf (otherHolds ∷ fifthRecord ∷ slotsFull ∷ []) (ofCall img d 0 s r isActive)
-  unfolding copyFault holds firstOf
+      ≡ firstRefusal (otherHolds ∷ fifthRecord ∷ slotsFull ∷ []) (ofCall img d 0 s r isActive)
+  unfolding copyFault holds firstRefusal
   copy-row = by-test (ownsB d s r) (λ t. rw t (own t)) (λ t. rw t (other t))
     where
       g : Given
       g = ofCall img d 0 s r isActive
 
-      own : ownsB d s r ≡ true → 0 ≡ firstOf (otherHolds ∷ fifthRecord ∷ slotsFull ∷ []) g
+      own : ownsB d s r ≡ true → 0 ≡ firstRefusal (otherHolds ∷ fifthRecord ∷ slotsFull ∷ []) g
       own t =
           let m = sym own-marked ∙ t in
           let c = own-copies (ltb-true _ _ t) in
@@ -260,14 +260,14 @@ module _ (img : List ℕ) (d : Desk) (s r : ℕ) (h : RecordEntered img d s r) w
           rw (m, and-false (not (eqb (markAt d r) 0)), some)
 
       other : ownsB d s r ≡ false
-          → copyFault (markAt d r) (e .count) (emptySlot img (d .n) s) ≡ firstOf (otherHolds ∷ fifthRecord ∷ slotsFull ∷ []) g
+          → copyFault (markAt d r) (e .count) (emptySlot img (d .n) s) ≡ firstRefusal (otherHolds ∷ fifthRecord ∷ slotsFull ∷ []) g
       other t =
           let m = sym own-marked ∙ t in
           joined g (otherHolds ∷ []) (fifthRecord ∷ slotsFull ∷ []) (asks g otherHolds (eqb (markAt d r) 0) (rw m (and-true (not (eqb (markAt d r) 0)))))
           (λ z. joined g (fifthRecord ∷ []) (slotsFull ∷ []) (asks g fifthRecord (ltb (e .count) 4) (rw m (leb-not 4 (e .count))))
           (λ z. asks g slotsFull (leb 1 (e .count) || ltb (emptySlot img (d .n) s) 2) (both-full (e .count) (slotEmpty img (d .n) s))))
 
-pub write-row : (img : List ℕ) (d : Desk) (s r : ℕ) (ws : List ℕ) → writeFault img d s r ≡ firstOf (row (write s r ws)) (given img d (write s r ws))
+pub write-row : (img : List ℕ) (d : Desk) (s r : ℕ) (ws : List ℕ) → writeFault img d s r ≡ firstRefusal (row (write s r ws)) (given img d (write s r ws))
 unfolding writeFault holds
 write-row img d s r ws =
     let g = given img d (write s r ws) in

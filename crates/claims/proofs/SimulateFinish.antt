@@ -21,7 +21,7 @@ use Rattle.commit.specs.declared.finishing.FinishReply.{FinishReply}
 use Rattle.commit.specs.Told.{finishTold}
 use Rattle.history.specs.Call.{finish}
 use Rattle.history.specs.Desk.{Copy}
-use Rattle.history.specs.Due.{finishes, sealsCopies, clockLimit, dueOf, finishEntries as logEntries}
+use Rattle.history.specs.Due.{finishes, sealsCopies, dueOf, finishStores}
 use Rattle.history.specs.History.{History}
 use Rattle.claims.proofs.Abstraction.{txn-of, copiesOf, abs, abs-put, length-front}
 use Rattle.claims.proofs.Simulation.{Sim, Ready}
@@ -55,13 +55,13 @@ module _ (N M : ℕ) (img : List ℕ) (d : Desk) (f : ℕ → ℕ) (len s : ℕ)
   count-is = length-front (e .count) (e .copies) (fits N M img d s h l)
 
   -- the log that is stored
-  seal-entries : sealEntries d s ≡ logEntries (d .n) (placeOf s (e .slot)) (d .clock) (copiesOf e)
+  seal-entries : sealEntries d s ≡ finishStores (d .n) (placeOf s (e .slot)) (d .clock) (copiesOf e)
   seal-entries = log-copies e (fits N M img d s h l) (slotAt (d .n) (placeOf s (e .slot))) (d .clock)
 
   -- an active session, by its copies
   seals : (b : ℕ) → e .phase ≡ Active b → (cs : List Copy) → copiesOf e ≡ cs
       → Does d f (finish-call d f len s) (unless (eqb (e .count) 0 || ltb (d .clock) limit) 10) (sealsCopies (d .n) (d .clock) (placeOf s (e .slot)) cs)
-  unfolding answered clockLimit
+  unfolding answered
   seals b i [] z =
       rw (eq-eqb (e .count) 0 (sym count-is ∙ ap length z))
       (record { answers = refl; stored = refl; desk = abs-put d (d .clock) (d .n) (d .m) s idleSession (d .holders) (session-there N M img d h s l) })
@@ -70,13 +70,13 @@ module _ (N M : ℕ) (img : List ℕ) (d : Desk) (f : ℕ → ℕ) (len s : ℕ)
       go : eqb (e .count) 0 ≡ false → Dec (d .clock < limit)
           → Does d f (finish-call d f len s) (unless (eqb (e .count) 0 || ltb (d .clock) limit) 10) (sealsCopies (d .n) (d .clock) (placeOf s (e .slot)) (c ∷ cs))
       go some (yes x) =
-          rw (some, lt-ltb (d .clock) limit x, lt-leb clockLimit (d .clock) x)
+          rw (some, lt-ltb (d .clock) limit x, lt-leb limit (d .clock) x)
           (record {
             answers = refl;
             stored = rw z at seal-entries;
             desk = rw i (abs-put d (d .clock) (d .n) (d .m) s (withPhase e (Sealed (d .clock))) (d .holders) (session-there N M img d h s l));
           })
-      go some (no n) = rw (some, le-ltb (d .clock) limit (omega arith), le-leb clockLimit (d .clock) (omega arith)) (does-refuse d f (finish-call d f len s) 9)
+      go some (no n) = rw (some, le-ltb (d .clock) limit (omega arith), le-leb limit (d .clock) (omega arith)) (does-refuse d f (finish-call d f len s) 9)
 
   -- by the session's phase
   by-phase : (p : Phase) → e .phase ≡ p

@@ -24,7 +24,7 @@ use Rattle.commit.specs.declared.settling.SettleReply.{SettleReply}
 use Rattle.layout.specs.Told.{wait}
 use Rattle.commit.specs.Told.{settleTold}
 use Rattle.history.specs.Call.{settle}
-use Rattle.history.specs.Desk.{Copy, before, firstOf}
+use Rattle.history.specs.Desk.{Copy, inTheWay, firstOf}
 use Rattle.history.specs.Due.{settles, waits, dueOf}
 use Rattle.history.specs.History.{History}
 use Rattle.history.proofs.Copies.{Lowest, firstOf?}
@@ -72,7 +72,7 @@ lowest-agrees p f m n same le idle = go (firstOf f m) (firstOf? f m)
     )
 
 -- the store's test of a session is the abstract one
-starts-before : (end : ℕ) (p : Phase) (q : ℕ) (cs : List Copy) → startsBelow end p ≡ before end (txn-of p q cs)
+starts-before : (end : ℕ) (p : Phase) (q : ℕ) (cs : List Copy) → startsBelow end p ≡ inTheWay end (txn-of p q cs)
 starts-before end Idle q cs = refl
 starts-before end (Active b) q cs = refl
 starts-before end (Sealed n) q cs = refl
@@ -109,7 +109,7 @@ module _ (N M : ℕ) (img : List ℕ) (d : Desk) (f : ℕ → ℕ) (len s : ℕ)
   e = sessionAt d s
 
   -- the session waited for is one below M
-  waits-agree : (end : ℕ) → Agrees 16 (waitsFor d end) (firstOf (λ t. before end (pack (sessionAt d t))) M)
+  waits-agree : (end : ℕ) → Agrees 16 (waitsFor d end) (firstOf (λ t. inTheWay end (pack (sessionAt d t))) M)
   unfolding waitsFor
   waits-agree end =
       lowest-agrees _ _ M 16 (λ t. starts-before end (sessionAt d t .phase) (sessionAt d t .slot) (copiesOf (sessionAt d t)))
@@ -133,7 +133,7 @@ module _ (N M : ℕ) (img : List ℕ) (d : Desk) (f : ℕ → ℕ) (len s : ℕ)
   by-phase Idle z = does-refuse d f (settle-call d f len s) 5
   by-phase (Active b) z = does-refuse d f (settle-call d f len s) 5
   by-phase (Sealed n) z = does-refuse d f (settle-call d f len s) 5
-  by-phase (Published end) z = settled (firstOf (λ t. before end (pack (sessionAt d t))) M) (rw z (waits-agree end))
+  by-phase (Published end) z = settled (firstOf (λ t. inTheWay end (pack (sessionAt d t))) M) (rw z (waits-agree end))
 
 pub settle-sim : (N M : ℕ) (img : List ℕ) (d : Desk) (f : ℕ → ℕ) (k : History) (len s : ℕ) → Ready N M img d
     → Sim (settle len s) f d (settleTold (settleReply img d len s .answer)) (settleEntries img d len s) (settleReply img d len s .desk)

@@ -6,7 +6,7 @@ use mathlib.Core.List.{List, [], _∷_, _++_}
 use lib.ListN.{take}
 use Rattle.layout.specs.Crash.{arrived}
 use Rattle.layout.specs.Image.{recordsOf, sessionsOf, homeWords}
-use Rattle.layout.specs.Told.{Told, ok, clean, is, wordsOf, Copy, Home}
+use Rattle.layout.specs.Told.{Told, ok, clean, is, wordsTold, Copy, Home}
 use Rattle.history.specs.Call.{Call, read}
 use Rattle.history.specs.Cut.{feedCut}
 use Rattle.history.specs.Due.{due, fourWords}
@@ -59,8 +59,8 @@ cutHistory R img (during calls c k sel) =
 
 -- the words of a copy or home read are those that the history at the cut names, at the start that was noted when it was read
 pub record ReadRight (h : History) (start r : ℕ) (t : Told) : Type 0 where
-  pub copy : is Copy t ≡ true → wordsOf t ≡ viewAt h start r
-  pub home : is Home t ≡ true → wordsOf t ≡ fourWords (viewAt h start r)
+  pub copy : is Copy t ≡ true → wordsTold t ≡ viewAt h start r
+  pub home : is Home t ≡ true → wordsTold t ≡ fourWords (viewAt h start r)
 
 -- an image that is recovered: it opens, with the N and M that it had, and every record equals the book's
 pub record Recovered (R : Rules) (first : List ℕ) (h : History) (img : List ℕ) : Type 0 where

@@ -82,8 +82,8 @@ markedOther mark s = not (eqb mark 0) && not (eqb mark (s + 1))
 abbrev pub markedOwn : ℕ → ℕ → Bool
 markedOwn mark s = eqb mark (s + 1)
 
-abbrev pub countOf : Given → ℕ
-countOf g = sessionAt (g .desk) (g .session) .count
+abbrev pub copiesCounted : Given → ℕ
+copiesCounted g = sessionAt (g .desk) (g .session) .count
 
 -- slot q of the session is occupied
 abbrev pub slotTaken : Given → ℕ → Bool
@@ -107,18 +107,18 @@ holds noSession g = leb (g .desk .m) (g .session)
 holds noRecord g = leb (g .desk .n) (g .rec)
 holds wrongPhase g = not (g .allows (sessionAt (g .desk) (g .session) .phase))
 holds otherHolds g = markedOther (markAt (g .desk) (g .rec)) (g .session)
-holds fifthRecord g = not (markedOwn (markAt (g .desk) (g .rec)) (g .session)) && leb 4 (countOf g)
-holds slotsFull g = eqb (countOf g) 0 && slotTaken g 0 && slotTaken g 1
-holds clockAtLimit g = not (eqb (countOf g) 0) && leb limit (g .desk .clock)
+holds fifthRecord g = not (markedOwn (markAt (g .desk) (g .rec)) (g .session)) && leb 4 (copiesCounted g)
+holds slotsFull g = eqb (copiesCounted g) 0 && slotTaken g 0 && slotTaken g 1
+holds clockAtLimit g = not (eqb (copiesCounted g) 0) && leb limit (g .desk .clock)
 holds slotOccupied g = occupiedB (g .image) (recordsOf (g .image)) (2 * sessionsOf (g .image))
 holds logUnsound g = anyBelow (2 * sessionsOf (g .image)) (unsoundAt (g .image))
 holds logsTied g = anyBelow (2 * sessionsOf (g .image)) (λ p. anyBelow p (tiedAt (g .image) p))
 holds outOfRange g = not (inRange (g .n) (g .m))
 
 -- the number of the first cause that holds, 0 where none does
-unfoldable pub firstOf : List Cause → Given → ℕ
-firstOf [] g = 0
-firstOf (c ∷ row) g = cond (holds c g) (number c) (firstOf row g)
+unfoldable pub firstRefusal : List Cause → Given → ℕ
+firstRefusal [] g = 0
+firstRefusal (c ∷ row) g = cond (holds c g) (number c) (firstRefusal row g)
 
 -- ---- the rows
 
@@ -185,25 +185,25 @@ pub record StoresNothing (count : ℕ) (es : List Entry) : Type 0 where
 pub record Refusals : Type 0 where
   -- the image stays
   pub lay : (n m : ℕ) (img : List ℕ)
-      → TurnedAway (layTold (layAnswer n m img)) (firstOf layRow (ofImage img 0 n m)) 0 (laidImage n m img) img
+      → TurnedAway (layTold (layAnswer n m img)) (firstRefusal layRow (ofImage img 0 n m)) 0 (laidImage n m img) img
   -- refused, it gives a desk with clock, N and M 0, all idle, unmarked
   pub opens : (img : List ℕ)
-      → TurnedAway (storeRules .opens img .told) (firstOf openRow (ofImage img 0 0 0)) 0 (storeRules .opens img .desk) (freshDesk 0 0 0)
+      → TurnedAway (storeRules .opens img .told) (firstRefusal openRow (ofImage img 0 0 0)) 0 (storeRules .opens img .desk) (freshDesk 0 0 0)
   -- 7 names the holder, and leaves the caller idle with its marks and copies dropped; any other refusal leaves the desk
   pub calls : (img : List ℕ) (d : Desk) (c : Call)
-      → TurnedAway (storeRules .call img d c .told) (firstOf (row c) (given img d c))
-      (only 7 (markAt d (given img d c .rec) - 1) 0 (firstOf (row c) (given img d c)))
-      (storeRules .call img d c .desk) (only 7 (dropped d (given img d c .session)) d (firstOf (row c) (given img d c)))
+      → TurnedAway (storeRules .call img d c .told) (firstRefusal (row c) (given img d c))
+      (only 7 (markAt d (given img d c .rec) - 1) 0 (firstRefusal (row c) (given img d c)))
+      (storeRules .call img d c .desk) (only 7 (dropped d (given img d c .session)) d (firstRefusal (row c) (given img d c)))
   -- 12 names the lowest place that is not sound; the image stays
   pub recover : (img : List ℕ) (len : ℕ)
-      → TurnedAway (storeRules .recover img len .told) (firstOf recoverRow (ofImage img len 0 0))
-      (only 12 (lowest (2 * sessionsOf img) (unsoundAt img)) 0 (firstOf recoverRow (ofImage img len 0 0)))
+      → TurnedAway (storeRules .recover img len .told) (firstRefusal recoverRow (ofImage img len 0 0))
+      (only 12 (lowest (2 * sessionsOf img) (unsoundAt img)) 0 (firstRefusal recoverRow (ofImage img len 0 0)))
       (made (storeRules .recover img len .entries) img) img
   -- a refused read gives four zeros
-  pub read-words : (img : List ℕ) (d : Desk) (s r : ℕ) → (firstOf (row (read s r)) (given img d (read s r)) ≡ 0 → ⊥)
+  pub read-words : (img : List ℕ) (d : Desk) (s r : ℕ) → (firstRefusal (row (read s r)) (given img d (read s r)) ≡ 0 → ⊥)
       → readReply img d s r .words ≡ zeroWords
   -- a refusal stores nothing
-  pub calls-store : (img : List ℕ) (d : Desk) (c : Call) → (firstOf (row c) (given img d c) ≡ 0 → ⊥)
+  pub calls-store : (img : List ℕ) (d : Desk) (c : Call) → (firstRefusal (row c) (given img d c) ≡ 0 → ⊥)
       → StoresNothing (storeRules .call img d c .count) (storeRules .call img d c .entries)
-  pub recover-stores : (img : List ℕ) (len : ℕ) → (firstOf recoverRow (ofImage img len 0 0) ≡ 0 → ⊥)
+  pub recover-stores : (img : List ℕ) (len : ℕ) → (firstRefusal recoverRow (ofImage img len 0 0) ≡ 0 → ⊥)
       → StoresNothing (storeRules .recover img len .count) (storeRules .recover img len .entries)

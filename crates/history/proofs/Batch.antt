@@ -7,8 +7,8 @@ use mathlib.Core.Bool.{Bool}
 use mathlib.Core.List.{List, [], _∷_}
 use lib.ListN.{length, getD, take, set, length-set}
 use lib.Seq.{getD-set-same}
-use Rattle.history.specs.Log.{Write, In, Functional}
-use Rattle.layout.specs.Entries.{Entry, store, fence, made, stores}
+use Rattle.history.specs.Log.{In, Functional}
+use Rattle.layout.specs.Entries.{Entry, store, fence, made, stores, Write}
 use Rattle.layout.specs.Crash.{arrived, crashed as cut}
 use Rattle.history.specs.Batch.{batch}
 use Rattle.history.proofs.Cuts.{set-word, Stored, stored-take, stored-in, arrived-word, length-arrived, made-word, length-made, made-written, made-append, cut-fence}

@@ -9,8 +9,8 @@ use native.Mathlib.Nat.{add-zero}
 use native.Mathlib.Omega.{arith}
 use lib.ListN.{length, getD, set, take, length-set}
 use lib.Seq.{getD-set-same, getD-set-other, set-out}
-use Rattle.history.specs.Log.{Write, In}
-use Rattle.layout.specs.Entries.{Entry, store, fence, made, stores, endsFenced}
+use Rattle.history.specs.Log.{In}
+use Rattle.layout.specs.Entries.{Entry, store, fence, made, stores, endsFenced, Write}
 use Rattle.layout.specs.Crash.{fenced, arrived, crashed as cut}
 
 -- the entries store w at i

@@ -14,13 +14,14 @@ use Rattle.layout.specs.Image.{placeOf, slotAt}
 use Rattle.layout.specs.Told.{empty, sealedAt}
 use Rattle.history.specs.Log.{In, Occupied}
 use Rattle.history.specs.Layout.{Home, body, logOf, view}
+use Rattle.desk.specs.Coherent.{limit}
 use Rattle.journal.specs.Log.{denoted}
 use Rattle.journal.proofs.LogFacts.{Sound}
 use Rattle.history.specs.Batch.{batch}
 use Rattle.history.specs.Call.{finish}
 use Rattle.history.specs.Cut.{feedCut}
 use Rattle.history.specs.Desk.{Copy, spot, writes, Session, idle, active, sealed, published, Desk, upd, withSession}
-use Rattle.history.specs.Due.{refuse, clockLimit, finishEntries, finishes, dueOf}
+use Rattle.history.specs.Due.{refuse, finishStores, finishes, dueOf}
 use Rattle.history.specs.History.{History, sealing}
 use Rattle.history.proofs.Batch.{Words, Fit, cut-words, made-words, made-turned}
 use Rattle.history.proofs.Beside.{Beside, beside-old, beside-back}
@@ -159,9 +160,9 @@ module _ (N M : ℕ) (img : List ℕ) (d : Desk) (h : History) (H : Holds N M im
   finish-at l (active b q []) e =
       said N M img d h H (finish len s) empty _ (λ _. refl) (record { clock = omega arith; views = λ σ u k. refl })
       (idles N M img d h H s b q [] h e l (record { opening = refl; sealed = refl; drafts = λ u n. refl; starts = λ u n. refl })) refl (λ _. refl)
-  finish-at l (active b q (c ∷ cs)) e = go (leb clockLimit (d .clock))
+  finish-at l (active b q (c ∷ cs)) e = go (leb limit (d .clock))
     where
-      go : (t : Bool) → Done N M img d h (finish len s) (cond t (refuse 10) (record { answer = sealedAt (d .clock); entries = finishEntries N (placeOf s q) (d .clock) (c ∷ cs) }))
+      go : (t : Bool) → Done N M img d h (finish len s) (cond t (refuse 10) (record { answer = sealedAt (d .clock); entries = finishStores N (placeOf s q) (d .clock) (c ∷ cs) }))
       go true = refusing N M img d h H (finish len s) 10 refl
       go false = rw (log-batch (slotAt N (placeOf s q)) (d .clock) (c ∷ cs)) (sealed-done l b q (c ∷ cs) e (omega arith))
   finish-at l (sealed n q cs) e = refusing N M img d h H (finish len s) 6 refl

@@ -21,7 +21,7 @@ use Rattle.history.specs.Log.{Occupied, Oldest}
 use Rattle.history.specs.Layout.{logOf, view}
 use Rattle.history.specs.Call.{reclaim}
 use Rattle.history.specs.Desk.{spot, Session, idle, active, sealed, published, Desk, upd}
-use Rattle.history.specs.Due.{say, lesser, smallest, clearEntries, clears, reclaims, dueOf}
+use Rattle.history.specs.Due.{say, lesser, smallest, clearStores, clears, reclaims, dueOf}
 use Rattle.history.specs.History.{History}
 use Rattle.history.specs.Ledger.{free, choice, candidate, emptied}
 use Rattle.history.proofs.Copies.{neqb→ne, upd-same, upd-other}
@@ -133,7 +133,7 @@ module _ (N M : ℕ) (img : List ℕ) (d : Desk) (h : History) (H : Holds N M im
     clears-done = go (ltb least (view N img .number (placeOf s q))) (nltb→le least (view N img .number (placeOf s q)))
       where
         go : (b : Bool) → (T (not b) → view N img .number (placeOf s q) ≤ least) → Done N M img d h (reclaim len s)
-            (cond b (say (held least)) (record { answer = cleared (view N img .number (placeOf s q)); entries = clearEntries N (placeOf s q) }))
+            (cond b (say (held least)) (record { answer = cleared (view N img .number (placeOf s q)); entries = clearStores N (placeOf s q) }))
         go true f = same N M img d h H (reclaim len s) (held least) (λ _. refl) refl refl (λ _. refl)
         go false f = record {
           kept = all;
@@ -141,10 +141,10 @@ module _ (N M : ℕ) (img : List ℕ) (d : Desk) (h : History) (H : Holds N M im
           low = λ j lj. made-one (slotAt N (placeOf s q)) 0 img .others j (λ z. omega arith);
           low-cut = λ k sel j lj. cut-one (slotAt N (placeOf s q)) 0 img k sel .others j (λ z. omega arith);
           marks = λ p. mark p (ℕ-discrete p (placeOf s q)) ∙ ap (λ c. emptied s c (view N img .number) p) (sym ce);
-          broken = λ k sel. some-word (cut k sel (clearEntries N (placeOf s q)) img) (cut-one (slotAt N (placeOf s q)) 0 img k sel);
+          broken = λ k sel. some-word (cut k sel (clearStores N (placeOf s q)) img) (cut-one (slotAt N (placeOf s q)) 0 img k sel);
         }
           where
-            mark : (p : ℕ) → Dec (p ≡ placeOf s q) → getD (made (clearEntries N (placeOf s q)) img) (slotAt N p) 0 ≡ upd (placeOf s q) 0 (view N img .number) p
+            mark : (p : ℕ) → Dec (p ≡ placeOf s q) → getD (made (clearStores N (placeOf s q)) img) (slotAt N p) 0 ≡ upd (placeOf s q) 0 (view N img .number) p
             mark p (yes e) = rw (e, upd-same (placeOf s q) 0 (view N img .number)) (getD-set-same img (slotAt N (placeOf s q)) 0 0 (omega (arith, H .whole, place-in M s q l lq)))
             mark p (no n) = rw (upd-other (placeOf s q) 0 (view N img .number) p n) (made-one (slotAt N (placeOf s q)) 0 img .others (slotAt N p) (slotAt-apart N p (placeOf s q) n))
 
@@ -164,7 +164,7 @@ module _ (N M : ℕ) (img : List ℕ) (d : Desk) (h : History) (H : Holds N M im
                 was : (u : ℕ) → Occupied (2 * M) (view N img′) u → getD img (slotAt N u) 0 ≢ 0
                 was u a = rw (clear-emptied N M img img′ (placeOf s q) ow z .number-same u (a .0) (λ e. a .1 (rw e z))) at (a .1)
 
-            all : Holds N M (made (clearEntries N (placeOf s q)) img) d h
+            all : Holds N M (made (clearStores N (placeOf s q)) img) d h
             all = empties _ (made-one (slotAt N (placeOf s q)) 0 img) (getD-set-same img (slotAt N (placeOf s q)) 0 0 (omega (arith, H .whole, place-in M s q l lq)))
 
             -- nothing has arrived: word for word the image is as it was

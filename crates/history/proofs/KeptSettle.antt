@@ -14,8 +14,8 @@ use Rattle.layout.specs.Told.{wait}
 use Rattle.history.specs.Log.{In}
 use Rattle.history.specs.Layout.{view}
 use Rattle.history.specs.Call.{settle}
-use Rattle.history.specs.Desk.{Copy, writes, Session, idle, active, sealed, published, Desk, firstOf, before}
-use Rattle.history.specs.Due.{settleEntries, waits, settles, dueOf}
+use Rattle.history.specs.Desk.{Copy, writes, Session, idle, active, sealed, published, Desk, firstOf, inTheWay}
+use Rattle.history.specs.Due.{settleStores, waits, settles, dueOf}
 use Rattle.history.specs.History.{History}
 use Rattle.history.proofs.Copies.{in-word, Lowest, firstOf?}
 use Rattle.history.proofs.Invariant.{Logged, Starts}
@@ -44,41 +44,41 @@ module _ (N M : ℕ) (img : List ℕ) (d : Desk) (h : History) (H : Holds N M im
         hm : Homing N (2 * M) (view N img) (view N img′) (writes cs)
         hm = settle-homing N M img cs img′ (logged .lawful .below) so
 
-    late : ((t : ℕ) → t < M → T (not (before e (d .session t)))) → (σ u : ℕ) → u < M → Starts σ (d .session u) → e ≤ σ
+    late : ((t : ℕ) → t < M → T (not (inTheWay e (d .session t)))) → (σ u : ℕ) → u < M → Starts σ (d .session u) → e ≤ σ
     late g σ u lu st = go (d .session u) (g u lu) st
       where
-        go : (x : Session) → T (not (before e x)) → Starts σ x → e ≤ σ
+        go : (x : Session) → T (not (inTheWay e x)) → Starts σ x → e ≤ σ
         go idle t k = absurd k
         go (active b p ds) t k = rw k at (nltb→le b e t)
         go (sealed n p ds) t k = absurd k
         go (published f p ds) t k = absurd k
 
-    settle-waits : (o : Option ℕ) → Lowest (λ t. before e (d .session t)) M o → Done N M img d h (settle len s) (waits cs o)
+    settle-waits : (o : Option ℕ) → Lowest (λ t. inTheWay e (d .session t)) M o → Done N M img d h (settle len s) (waits cs o)
     settle-waits (some t) g = same N M img d h H (settle len s) (wait t) (λ _. refl) refl refl (λ _. refl)
     settle-waits none g = record {
       kept = record {
         whole = whole-part .good .whole;
         sounds = whole-part .good .sound;
-        inv = settling N M (view N img) (view N (made (settleEntries cs) img)) d h s e q cs (H .inv) l is
-            (settle-homing N M img cs (made (settleEntries cs) img) (logged .lawful .below) (made-some (writes cs) img))
+        inv = settling N M (view N img) (view N (made (settleStores cs) img)) d h s e q cs (H .inv) l is
+            (settle-homing N M img cs (made (settleStores cs) img) (logged .lawful .below) (made-some (writes cs) img))
             (made-all (writes cs) img (writes-functional cs (logged .lawful .distinct)) homes-in)
             (late g);
       };
       later = record { clock = omega arith; views = λ σ r k. refl };
-      low = λ j lj. settle-low N M img cs (made (settleEntries cs) img) (logged .lawful .below) (made-some (writes cs) img) j lj;
-      low-cut = λ k sel j lj. settle-low N M img cs (cut k sel (settleEntries cs) img) (logged .lawful .below) (cut-some (writes cs) img k sel) j lj;
-      marks = λ p. settle-beyond N M img cs (made (settleEntries cs) img) (logged .lawful .below) (made-some (writes cs) img) (slotAt N p) (omega arith);
-      broken = λ k sel. part (cut k sel (settleEntries cs) img) (cut-some (writes cs) img k sel);
+      low = λ j lj. settle-low N M img cs (made (settleStores cs) img) (logged .lawful .below) (made-some (writes cs) img) j lj;
+      low-cut = λ k sel j lj. settle-low N M img cs (cut k sel (settleStores cs) img) (logged .lawful .below) (cut-some (writes cs) img k sel) j lj;
+      marks = λ p. settle-beyond N M img cs (made (settleStores cs) img) (logged .lawful .below) (made-some (writes cs) img) (slotAt N p) (omega arith);
+      broken = λ k sel. part (cut k sel (settleStores cs) img) (cut-some (writes cs) img k sel);
     }
       where
-        whole-part : Crashed N M (made (settleEntries cs) img) h
-        whole-part = part (made (settleEntries cs) img) (made-some (writes cs) img)
+        whole-part : Crashed N M (made (settleStores cs) img) h
+        whole-part = part (made (settleStores cs) img) (made-some (writes cs) img)
 
   settle-at : s < M → (x : Session) → d .session s ≡ x → Done N M img d h (settle len s) (settles M d x)
   settle-at l idle e = refusing N M img d h H (settle len s) 6 refl
   settle-at l (active b q cs) e = refusing N M img d h H (settle len s) 6 refl
   settle-at l (sealed n q cs) e = refusing N M img d h H (settle len s) 6 refl
-  settle-at l (published f q cs) e = settle-waits l f q cs e (firstOf (λ t. before f (d .session t)) M) (firstOf? (λ t. before f (d .session t)) M)
+  settle-at l (published f q cs) e = settle-waits l f q cs e (firstOf (λ t. inTheWay f (d .session t)) M) (firstOf? (λ t. inTheWay f (d .session t)) M)
 
   pub settle-done : Done N M img d h (settle len s) (dueOf N M (view N img .number) d h (settle len s))
   settle-done =

@@ -7,7 +7,8 @@ use mathlib.Core.List.{List}
 use native.Mathlib.Decide.{ℕ-discrete}
 use native.Mathlib.Omega.{arith}
 use lib.ListN.{getD}
-use Rattle.history.specs.Log.{Write, In, State, Occupied, Puts, Final}
+use Rattle.layout.specs.Entries.{Write}
+use Rattle.history.specs.Log.{In, State, Occupied, Puts, Final}
 use Rattle.history.specs.Layout.{Home}
 use Rattle.history.specs.Desk.{Copy, spot, writes, idle, sealed, published, copies, Desk, upd, withSession}
 use Rattle.layout.specs.Image.{placeOf}

@@ -8,8 +8,8 @@ use native.Mathlib.Decide.{ℕ-discrete, decLt}
 use native.Mathlib.Omega.{arith}
 use lib.ListN.{length, getD, take, set, length-set}
 use lib.Seq.{take-nil}
-use Rattle.history.specs.Log.{Write, In, Functional}
-use Rattle.layout.specs.Entries.{Entry, store, fence, made, stores}
+use Rattle.history.specs.Log.{In, Functional}
+use Rattle.layout.specs.Entries.{Entry, store, fence, made, stores, Write}
 use Rattle.layout.specs.Crash.{arrived, crashed as cut}
 use Rattle.layout.specs.Image.{slotAt}
 use Rattle.history.specs.Layout.{Home, body, logOf, view}

@@ -4,7 +4,8 @@ use mathlib.Core.Path.{_≡_, refl}
 use mathlib.Core.Logic.{_⊎_, inl, inr}
 use mathlib.Core.List.{List, [], _∷_}
 use native.Mathlib.Decide.{ℕ-discrete}
-use Rattle.history.specs.Log.{Write, In}
+use Rattle.layout.specs.Entries.{Write}
+use Rattle.history.specs.Log.{In}
 
 -- whether a list writes i
 pub writes? : (i : ℕ) (ws : List Write) → ((v : ℕ) × In i v ws) ⊎ ((v : ℕ) → ¬ In i v ws)

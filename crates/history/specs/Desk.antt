@@ -78,8 +78,8 @@ abbrev pub holder : ℕ → Desk → ℕ → Option ℕ
 holder M d r = firstOf (λ t. found (find r (copies (d .session t)))) M
 
 -- the session is active with a start below e
-abbrev pub before : ℕ → Session → Bool
-before e idle = false
-before e (active b q cs) = ltb b e
-before e (sealed n q cs) = false
-before e (published f q cs) = false
+abbrev pub inTheWay : ℕ → Session → Bool
+inTheWay e idle = false
+inTheWay e (active b q cs) = ltb b e
+inTheWay e (sealed n q cs) = false
+inTheWay e (published f q cs) = false

@@ -9,9 +9,10 @@ use lib.Dec.{eqb, leb, ltb}
 use Rattle.layout.specs.Entries.{Entry, store, fence, stores, shift}
 use Rattle.layout.specs.Image.{placeOf, slotAt}
 use Rattle.layout.specs.Told.{Told, refused, refusal, ok, start, own, copied, home, empty, sealedAt, endedAt, wait, nothing, held, cleared}
+use Rattle.desk.specs.Coherent.{limit}
 use Rattle.journal.specs.Log.{logEntries}
 use Rattle.history.specs.Call.{Call, begin, read, write, abandon, finish, publish, settle, reclaim}
-use Rattle.history.specs.Desk.{Copy, find, recAt, wordsAt, writes, Session, idle, active, sealed, published, Desk, holder, firstOf, before}
+use Rattle.history.specs.Desk.{Copy, find, recAt, wordsAt, writes, Session, idle, active, sealed, published, Desk, holder, firstOf, inTheWay}
 use Rattle.history.specs.History.{History, viewAt}
 use Rattle.history.specs.Ledger.{Ledger, candidate}
 
@@ -25,10 +26,6 @@ say t = record { answer = t; entries = [] }
 
 abbrev pub refuse : ℕ → Due
 refuse k = say (refusal k)
-
--- L: the clock at which finish is refused
-unfoldable pub clockLimit : ℕ
-clockLimit = 4_611_686_018_427_387_904
 
 -- begin: idle becomes active; start is the clock
 abbrev pub begins : ℕ → Session → Due
@@ -99,14 +96,14 @@ abandons (sealed n q cs) = refuse 6
 abandons (published e q cs) = refuse 6
 
 -- the log of the copies, in the slot at place p
-abbrev pub finishEntries : ℕ → ℕ → ℕ → List Copy → List Entry
-finishEntries N p n cs = shift (slotAt N p) (logEntries n (recAt cs) (wordsAt cs) (length cs))
+abbrev pub finishStores : ℕ → ℕ → ℕ → List Copy → List Entry
+finishStores N p n cs = shift (slotAt N p) (logEntries n (recAt cs) (wordsAt cs) (length cs))
 
 -- empty, 10, or sealed with the clock
 abbrev pub sealsCopies : ℕ → ℕ → ℕ → List Copy → Due
 sealsCopies N clock p [] = say empty
 sealsCopies N clock p (c ∷ cs) =
-    cond (leb clockLimit clock) (refuse 10) (record { answer = sealedAt clock; entries = finishEntries N p clock (c ∷ cs) })
+    cond (leb limit clock) (refuse 10) (record { answer = sealedAt clock; entries = finishStores N p clock (c ∷ cs) })
 
 abbrev pub finishes : ℕ → ℕ → ℕ → Session → Due
 finishes N clock s idle = refuse 6
@@ -122,18 +119,18 @@ publishes clock (sealed n q cs) = say (endedAt (suc clock))
 publishes clock (published e q cs) = refuse 6
 
 -- wait with the lowest session in the way; otherwise the copies go home and a fence follows
-abbrev pub settleEntries : List Copy → List Entry
-settleEntries cs = stores (writes cs) ++ fence ∷ []
+abbrev pub settleStores : List Copy → List Entry
+settleStores cs = stores (writes cs) ++ fence ∷ []
 
 abbrev pub waits : List Copy → Option ℕ → Due
 waits cs (some t) = say (wait t)
-waits cs none = record { answer = ok; entries = settleEntries cs }
+waits cs none = record { answer = ok; entries = settleStores cs }
 
 abbrev pub settles : ℕ → Desk → Session → Due
 settles M d idle = refuse 6
 settles M d (active b q cs) = refuse 6
 settles M d (sealed n q cs) = refuse 6
-settles M d (published e q cs) = waits cs (firstOf (λ t. before e (d .session t)) M)
+settles M d (published e q cs) = waits cs (firstOf (λ t. inTheWay e (d .session t)) M)
 
 -- the smallest persist number of the first k slots, 0 where all are empty
 abbrev pub lesser : ℕ → ℕ → ℕ
@@ -143,12 +140,12 @@ unfoldable pub smallest : (ℕ → ℕ) → ℕ → ℕ
 smallest f zero = 0
 smallest f (suc k) = lesser (smallest f k) (f k)
 
-abbrev pub clearEntries : ℕ → ℕ → List Entry
-clearEntries N p = store (slotAt N p) 0 ∷ fence ∷ []
+abbrev pub clearStores : ℕ → ℕ → List Entry
+clearStores N p = store (slotAt N p) 0 ∷ fence ∷ []
 
 -- none, held with the smallest number of the image, or cleared with the number that the slot had
 abbrev pub clears : ℕ → (ℕ → ℕ) → ℕ → ℕ → Due
-clears N f p least = cond (ltb least (f p)) (say (held least)) (record { answer = cleared (f p); entries = clearEntries N p })
+clears N f p least = cond (ltb least (f p)) (say (held least)) (record { answer = cleared (f p); entries = clearStores N p })
 
 abbrev pub reclaims : ℕ → ℕ → (ℕ → ℕ) → ℕ → Option ℕ → Due
 reclaims N M f s none = say nothing

@@ -10,14 +10,14 @@ use Rattle.layout.specs.Image.{slotAt}
 use Rattle.history.specs.Layout.{body, logOf}
 
 -- the entries that apply the log of slot p and empty the slot
-abbrev pub applied : ℕ → List ℕ → ℕ → List Entry
-applied N img p = batch (denoted (logOf (body N img p))) (slotAt N p) 0
+abbrev pub replayAt : ℕ → List ℕ → ℕ → List Entry
+replayAt N img p = batch (denoted (logOf (body N img p))) (slotAt N p) 0
 
 -- a step that comes to its end, or is cut once its first k entries are made
-pub data Attempt : Type 0 where
-  whole : Attempt
-  broken : ℕ → (ℕ → Bool) → Attempt
+pub data Reach : Type 0 where
+  whole : Reach
+  broken : ℕ → (ℕ → Bool) → Reach
 
-abbrev pub run : Attempt → List Entry → List ℕ → List ℕ
-run whole es img = made es img
-run (broken k sel) es img = cut k sel es img
+abbrev pub reached : Reach → List Entry → List ℕ → List ℕ
+reached whole es img = made es img
+reached (broken k sel) es img = cut k sel es img

@@ -119,9 +119,9 @@ valueOf (refused k v) = v
 valueOf (result x n ws) = n
 
 -- the words of a read
-abbrev pub wordsOf : Told → List ℕ
-wordsOf (refused k v) = []
-wordsOf (result x n ws) = ws
+abbrev pub wordsTold : Told → List ℕ
+wordsTold (refused k v) = []
+wordsTold (result x n ws) = ws
 
 abbrev pub layTold : LayAnswer → Told
 layTold (Refused k) = refusal k

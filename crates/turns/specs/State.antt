@@ -21,15 +21,17 @@ firstState have ended =
       stopped = false;
     }
 
--- behind a step of this many bytes; the lines count the steps from 1
-abbrev pub countedOf : State → ℕ → State
-countedOf s bytes =
+-- ---- one part changed
+
+-- what is read and held of the input, where the lines end, and the number of steps
+abbrev pub placed : State → ℕ → ℕ → ℕ → ℕ → State
+placed s at have put number =
     record {
-      at = s .at + bytes;
-      have = s .have;
-      put = s .put;
+      at = at;
+      have = have;
+      put = put;
       size = s .size;
-      number = s .number + 1;
+      number = number;
       cut = s .cut;
       cutting = s .cutting;
       ended = s .ended;
@@ -38,155 +40,78 @@ countedOf s bytes =
       stopped = s .stopped;
     }
 
--- the lines end at p
-abbrev pub putOf : State → ℕ → State
-putOf s p =
-    record {
-      at = s .at;
-      have = s .have;
-      put = p;
-      size = s .size;
-      number = s .number;
-      cut = s .cut;
-      cutting = s .cutting;
-      ended = s .ended;
-      lost = s .lost;
-      closed = s .closed;
-      stopped = s .stopped;
-    }
-
--- the lines were written out; the walk stops where the write failed
-abbrev pub writtenOf : State → Bool → State
-writtenOf s failed =
-    record {
-      at = s .at;
-      have = s .have;
-      put = 0;
-      size = s .size;
-      number = s .number;
-      cut = s .cut;
-      cutting = s .cutting;
-      ended = s .ended;
-      lost = s .lost;
-      closed = s .closed;
-      stopped = failed;
-    }
-
--- the bytes held stand first, with `came` more behind them; the input has ended where none came
-abbrev pub filledOf : State → ℕ → State
-filledOf s came =
-    record {
-      at = 0;
-      have = s .have - s .at + came;
-      put = s .put;
-      size = s .size;
-      number = s .number;
-      cut = s .cut;
-      cutting = s .cutting;
-      ended = eqb came 0;
-      lost = s .lost;
-      closed = s .closed;
-      stopped = s .stopped;
-    }
-
--- the walk stops
-abbrev pub stoppedOf : State → State
-stoppedOf s =
-    record {
-      at = s .at;
-      have = s .have;
-      put = s .put;
-      size = s .size;
-      number = s .number;
-      cut = s .cut;
-      cutting = s .cutting;
-      ended = s .ended;
-      lost = s .lost;
-      closed = s .closed;
-      stopped = true;
-    }
-
--- the image is laid, has this size and is to be opened
-abbrev pub sizedOf : State → ℕ → State
-sizedOf s size =
+-- the image's size, and the cut that waits
+abbrev pub planned : State → ℕ → ℕ → Bool → State
+planned s size cut cutting =
     record {
       at = s .at;
       have = s .have;
       put = s .put;
       size = size;
       number = s .number;
-      cut = s .cut;
-      cutting = s .cutting;
+      cut = cut;
+      cutting = cutting;
       ended = s .ended;
       lost = s .lost;
-      closed = true;
+      closed = s .closed;
       stopped = s .stopped;
     }
+
+-- whether the input has ended, the desk is lost, the image is to be opened, the walk stops
+abbrev pub flagged : State → Bool → Bool → Bool → Bool → State
+flagged s ended lost closed stopped =
+    record {
+      at = s .at;
+      have = s .have;
+      put = s .put;
+      size = s .size;
+      number = s .number;
+      cut = s .cut;
+      cutting = s .cutting;
+      ended = ended;
+      lost = lost;
+      closed = closed;
+      stopped = stopped;
+    }
+
+-- ---- the changes
+
+-- behind a step of this many bytes; the lines count the steps from 1
+abbrev pub countedOf : State → ℕ → State
+countedOf s bytes = placed s (s .at + bytes) (s .have) (s .put) (s .number + 1)
+
+-- the lines end at p
+abbrev pub putOf : State → ℕ → State
+putOf s p = placed s (s .at) (s .have) p (s .number)
+
+-- the lines were written out; the walk stops where the write failed
+abbrev pub writtenOf : State → Bool → State
+writtenOf s failed = flagged (putOf s 0) (s .ended) (s .lost) (s .closed) failed
+
+-- the bytes held stand first, with `came` more behind them; the input has ended where none came
+abbrev pub filledOf : State → ℕ → State
+filledOf s came = flagged (placed s 0 (s .have - s .at + came) (s .put) (s .number)) (eqb came 0) (s .lost) (s .closed) (s .stopped)
+
+-- the walk stops
+abbrev pub stoppedOf : State → State
+stoppedOf s = flagged s (s .ended) (s .lost) (s .closed) true
+
+-- the image is laid, has this size and is to be opened
+abbrev pub sizedOf : State → ℕ → State
+sizedOf s size = flagged (planned s size (s .cut) (s .cutting)) (s .ended) (s .lost) true (s .stopped)
 
 -- the image is opened
 abbrev pub openedOf : State → State
-openedOf s =
-    record {
-      at = s .at;
-      have = s .have;
-      put = s .put;
-      size = s .size;
-      number = s .number;
-      cut = s .cut;
-      cutting = s .cutting;
-      ended = s .ended;
-      lost = s .lost;
-      closed = false;
-      stopped = s .stopped;
-    }
+openedOf s = flagged s (s .ended) (s .lost) false (s .stopped)
 
 -- a cut after k entries waits for the next step that stores
 abbrev pub cutAt : State → ℕ → State
-cutAt s k =
-    record {
-      at = s .at;
-      have = s .have;
-      put = s .put;
-      size = s .size;
-      number = s .number;
-      cut = k;
-      cutting = true;
-      ended = s .ended;
-      lost = s .lost;
-      closed = s .closed;
-      stopped = s .stopped;
-    }
+cutAt s k = planned s (s .size) k true
 
 -- after a cut the desk is lost, and no other cut waits
 abbrev pub lostOf : State → State
-lostOf s =
-    record {
-      at = s .at;
-      have = s .have;
-      put = s .put;
-      size = s .size;
-      number = s .number;
-      cut = s .cut;
-      cutting = false;
-      ended = s .ended;
-      lost = true;
-      closed = s .closed;
-      stopped = s .stopped;
-    }
+lostOf s = flagged (planned s (s .size) (s .cut) false) (s .ended) true (s .closed) (s .stopped)
 
 -- the recovery is over, and the image is to be opened
 abbrev pub cleanOf : State → State
-cleanOf s =
-    record {
-      at = s .at;
-      have = s .have;
-      put = s .put;
-      size = s .size;
-      number = s .number;
-      cut = s .cut;
-      cutting = s .cutting;
-      ended = s .ended;
-      lost = false;
-      closed = true;
-      stopped = s .stopped;
-    }
+cleanOf s = flagged s (s .ended) false true (s .stopped)
