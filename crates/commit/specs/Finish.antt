@@ -1,7 +1,7 @@
 -- Finish (document 01): active only. Without copies the session is idle and the answer is "empty", no stores. With c copies the list is
 -- count and copies, a fence, the persist number, a fence: 5c + 4 entries. The persist number is the clock. The session is sealed. Checks 1,
 -- 2, 3, 4, 6, 10.
-use Prim.Native.Nat.{ℕ, _+_}
+use Prim.Native.Nat.{ℕ}
 use mathlib.Core.Bool.{_||_, cond}
 use mathlib.Core.List.{List, []}
 use lib.ListN.{length}

@@ -1,7 +1,7 @@
 -- Recover, on an image alone (document 01): with all slots empty, "clean". Otherwise it takes the slot with the smallest persist number,
 -- lowest place in the image first: its copies to the home records, a fence, 0 into the persist number, a fence; 4c + 3 entries, "replayed"
 -- with that number. Checks 1, 3, 12 with the lowest such place, 13.
-use Prim.Native.Nat.{ℕ, _+_, _*_}
+use Prim.Native.Nat.{ℕ, _*_}
 use mathlib.Core.Bool.{Bool, not, cond}
 use mathlib.Core.List.{List, [], _∷_, _++_}
 use lib.ListN.{length}

@@ -2,7 +2,7 @@
 -- the lowest empty slot of the session is reserved. Checks 1, 2, 4, 5, 6, 7, 8, 9; 7 leaves the caller idle with its marks and copies
 -- dropped.
 use Prim.Native.Nat.{ℕ, _+_, _-_}
-use mathlib.Core.Bool.{Bool, true, _||_, not, cond}
+use mathlib.Core.Bool.{Bool, true, _||_, cond}
 use mathlib.Core.List.{List}
 use lib.ListN.{set}
 use lib.Dec.{leb, ltb, eqb}
