@@ -436,8 +436,11 @@ impl<const CHECKS: bool> Store<CHECKS> {
         self.enter(Takes::Trace, session)?;
         let desk = &mut self.desk;
         let Phase::Published(end) = desk.sessions[session].phase else { return Err(6) };
-        let older = |entry: &Session| matches!(entry.phase, Phase::Active(start) if start < end);
-        if let Some(reader) = desk.sessions[..desk.m].iter().position(older) {
+        let readers = desk.sessions[..desk.m].iter().enumerate().filter_map(|(reader, entry)| match entry.phase {
+            Phase::Active(start) if start < end => Some((start, reader)),
+            _ => None,
+        });
+        if let Some((_, reader)) = readers.min() {
             return Ok(Answer::Wait(reader));
         }
         for (record, words) in desk.sessions[session].copies() {
@@ -1055,6 +1058,25 @@ mod tests {
         store.image[0] = 0;
         assert_eq!(refusal(store.finish(6)), 1);
         assert_eq!(store.recover(), Err(1));
+    }
+
+    #[test]
+    fn settle_names_the_oldest_reader() {
+        let named = |starts: &[(usize, u64)]| {
+            let mut store = busy();
+            for &(session, start) in starts {
+                store.desk.sessions[session].phase = Phase::Active(start);
+            }
+            match store.settle(3) {
+                Ok(Answer::Wait(reader)) => Some(reader),
+                _ => None,
+            }
+        };
+        assert_eq!(named(&[]), Some(0), "equal starts");
+        assert_eq!(named(&[(1, 6)]), Some(1), "a higher session with a smaller start");
+        assert_eq!(named(&[(4, 5), (5, 5)]), Some(4), "equal starts behind a lower session");
+        assert_eq!(named(&[(0, 8)]), Some(1), "a start equal to the end, and one below it");
+        assert_eq!(named(&[(0, 8), (1, 8)]), None, "starts equal to the end");
     }
 
     #[test]

@@ -574,10 +574,10 @@ def broken_desk(rng, desk, image, name):
 
 # ---- scenes --------------------------------------------------------------
 
-def session_scene(rng, call):
+def session_scene(rng, call, desk=None):
     """A session call with right image, coherent desk and arguments in range."""
-    n, m = rng.choice(SIZES)
-    desk = some_desk(rng, n, m)
+    desk = desk or some_desk(rng, *rng.choice(SIZES))
+    n, m = desk["N"], desk["M"]
     case = blank(call)
     case["desk"], case["session"] = desk, rng.randrange(m)
     if call in WITH_IMAGE:
@@ -705,6 +705,16 @@ AIMS = {
 }
 CLOCKS = {"clock L-1": lambda sealed: L - 1, "clock L": lambda sealed: L,
           "clock L+16 less sealed": lambda sealed: L + 16 - sealed}
+# Settle with wait or ok: its answer, and what holds of those in the way (start and session, ascending) and
+# of whether an active session has a start equal to the end.
+SETTLES = {
+    "older above": ("wait", lambda way, at_end: any(session < way[0][1] for _, session in way)),
+    "equal starts": ("wait", lambda way, at_end: len(way) > 2 and way[0][0] == way[1][0]
+                     and any(session < way[0][1] for _, session in way)),
+    "start at the end, wait": ("wait", lambda way, at_end: way and at_end),
+    "start at the end, ok": ("ok", lambda way, at_end: not way and at_end),
+    "last session": ("wait", lambda way, at_end: way and way[0][1] == 15),
+}
 # What each case in turn is aimed at.
 TURNS = ([(call, aim) for call in AIMS for aim in AIMS[call]]
          + [("break", name) for name in BREAKS]
@@ -712,7 +722,8 @@ TURNS = ([(call, aim) for call in AIMS for aim in AIMS[call]]
          + [("any", call) for call in WITH_DESK]
          + [(edge, call) for edge in CLOCKS for call in ("finish", "publish", "begin")]
          + [("largest", call) for call in WITH_IMAGE]
-         + [("second slot", "write"), ("recover", "replayed")])
+         + [("second slot", "write"), ("recover", "replayed")]
+         + [(kind, "settle") for kind in SETTLES])
 
 
 def outcome(case):
@@ -773,6 +784,29 @@ def at_clock(rng, call, edge):
             return case
 
 
+def settles(rng, kind):
+    """A settle with active sessions of this kind; they have starts of a small pool, falling half the time."""
+    while True:
+        desk = some_desk(rng, *rng.choice(SIZES))
+        clock, sessions = desk["clock"], desk["sessions"]
+        published = [s for s, e in enumerate(sessions) if e["phase"] == "published"]
+        active = [s for s, e in enumerate(sessions) if e["phase"] == "active"]
+        if not published or not active:
+            continue
+        caller = rng.choice(published)
+        end = sessions[caller]["number"]
+        pool = [rng.choice([1, end - 1, end, min(end + 1, clock), rng.randrange(1, clock + 1)])
+                for _ in range(4)]
+        starts = [rng.choice(pool) for _ in active]
+        if rng.random() < 0.5:
+            starts.sort(reverse=True)
+        for session, start in zip(active, starts):
+            sessions[session]["number"] = start
+        way = sorted((start, session) for session, start in zip(active, starts) if start < end)
+        if SETTLES[kind][1](way, end in starts):
+            return dict(session_scene(rng, "settle", desk), session=caller)
+
+
 def largest(rng, call):
     """N 256 and M 16 with a word too few or too many."""
     n, m = 256, 16
@@ -802,6 +836,8 @@ def make(seed, number):
         return session_scene(rng, what), (what, None)
     if kind in CLOCKS:
         return at_clock(rng, what, kind), (what, None)
+    if kind in SETTLES:
+        return settles(rng, kind), (what, SETTLES[kind][0])
     if kind == "largest":
         return largest(rng, what), (what, 1)
     return aimed(rng, kind, what), (kind, what)

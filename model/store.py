@@ -1,4 +1,4 @@
-"""Reference model of the two-copy record store (document 01).
+"""Reference model of the two-copy record store (document 01, and Req 01 of document 02).
 
 An image is a list of 64-bit words, a desk is a dictionary, a trace (the document's strip) is given
 by its length in words. No call alters what it is given. Each call returns a
@@ -411,15 +411,18 @@ def log_body(at, copies):
 
 def settle(image, desk, trace, session):
     """Published only. Waits while an active session has a start below this
-    end; otherwise the copies go home, the session is idle and the slot stays
-    occupied."""
+    end, and names the one with the smallest start, among equal starts the
+    lowest session (document 02, Req 01); otherwise the copies go home, the
+    session is idle and the slot stays occupied."""
     refusal = turned_away(desk, session, image, trace, phase="published")
     if refusal:
         return result(refusal, desk, image)
     own = desk["sessions"][session]
-    for other, e in enumerate(desk["sessions"]):  # the lowest such session
-        if e["phase"] == "active" and e["number"] < own["number"]:
-            return result(said("wait", other), desk, image)
+    in_the_way = [(e["number"], other) for other, e in enumerate(desk["sessions"])
+                  if e["phase"] == "active" and e["number"] < own["number"]]
+    if in_the_way:
+        _, named = min(in_the_way)  # the smallest start, among equal starts the lowest session
+        return result(said("wait", named), desk, image)
     entries = to_home(copies_of(own)) + [FENCE]
     return result(said("ok"), made_idle(desk, session), image, entries)
 

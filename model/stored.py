@@ -21,7 +21,7 @@ import streams  # noqa: E402
 CRATES = os.path.join(HERE, "..", "crates")
 SEEDS = {kind: 14 for kind in streams.KINDS}
 SEEDS["long"] = 6
-RAW_SEED, RAW_CASES = 1, 3120
+RAW_SEED, RAW_CASES = 1, 3240
 
 
 def schedule(kind_and_seed):

@@ -40,6 +40,9 @@ class Maker:
         self.bytes += bytes([kind, *body])
         return self.walk.step(kind, bytes(body))
 
+    def phase(self, session):
+        return self.walk.desk["sessions"][session]["phase"]
+
     # steps of every kind, with words or a cut count chosen
 
     def words(self):
@@ -72,7 +75,7 @@ class Maker:
         suits = {"idle": [BEGIN] * 5 + [RECLAIM], "sealed": [PUBLISH] * 7 + [RECLAIM],
                  "active": [READ] * 6 + [WRITE] * 9 + [FINISH] * 3 + [RECLAIM, ABANDON],
                  "published": [SETTLE] * 7 + [RECLAIM]}
-        kind = rng.choice(suits[self.walk.desk["sessions"][session]["phase"]])
+        kind = rng.choice(suits[self.phase(session)])
         if rng.random() < self.stray:
             kind = rng.choice([BEGIN, READ, WRITE, FINISH, PUBLISH, SETTLE, RECLAIM, ABANDON])
         record = self.some_record(session, kind)
@@ -305,6 +308,53 @@ def every_answer(rng):
     return maker.bytes
 
 
+def readers(rng):
+    """Readers begin before each of several writers, the highest first or in any order; settle names them
+    one by one, and each one named goes."""
+    maker = Maker(rng, rng.choice([32, 256]), rng.choice([8, 16]))
+    while maker.walk.steps < 400:
+        idle = [s for s in range(maker.m) if maker.phase(s) == "idle"]
+        free = [r for r in range(maker.n) if maker.walk.desk["marks"][r] is None]
+        rng.shuffle(idle)
+        rng.shuffle(free)
+        several = rng.randrange(3, max(4, 1 + len(idle) // 2))
+        writers, others, order = idle[:several], idle[several:], []
+        if rng.random() < 0.5:
+            others.sort()
+        for writer in writers:
+            order += [others.pop() for _ in range(min(len(others), rng.randrange(1, 3)))] + [writer]
+        for session in order + others:
+            if session in writers:
+                maker.to_phase(session, [free.pop() for _ in range(rng.randrange(1, 3))], "published")
+            else:
+                maker.wrote(session, [free.pop()] if rng.random() < 0.2 else [])
+                maker.do(READ, session, maker.some_record(session, READ))
+        for session in settled(maker, rng, writers):
+            maker.do(RECLAIM, session)
+    return maker.bytes
+
+
+def settled(maker, rng, writers):
+    """Settles these published sessions, again and again. In between the reader that was named finishes or
+    abandons; where it is sealed then, it is settled too. Returns all of them in sealing order."""
+    order, left = list(writers), list(writers)
+    while left:
+        named = None
+        for session in rng.sample(left, len(left)):
+            line = maker.do(PUBLISH if maker.phase(session) == "sealed" else SETTLE, session)[0].split(" ")
+            if line[-1] == "ok":
+                left.remove(session)
+            elif line[-2] == "wait":
+                named = int(line[-1])
+        if named is not None:
+            maker.do(READ, named, maker.some_record(named, READ))
+            maker.do(rng.choice([FINISH, ABANDON]), named)
+            if maker.phase(named) == "sealed":
+                left.append(named)
+                order.append(named)
+    return order
+
+
 def sizes_refused(rng):
     """Step 0 with M out of range, with bytes behind it that are not read."""
     n, m = rng.choice([0, 1, 2, 255]), rng.choice([0, 17, 18, 128, 255])
@@ -359,7 +409,7 @@ def noise(rng):
 
 KINDS = {f.__name__: f for f in (
     mix, hot, cold, small, large, long, stray, restless, cuts_finish, cuts_settle,
-    cuts_reclaim, cuts_idle, every_answer, sizes_refused, damaged, noise)}
+    cuts_reclaim, cuts_idle, every_answer, readers, sizes_refused, damaged, noise)}
 
 
 def stream(kind, seed):

@@ -164,9 +164,10 @@ class Foresight:
         return ("end", self.clock, 0)
 
     def settle(self, session, record):
-        for other in range(self.m):
-            if self.phase[other] == "active" and self.at[other] < self.at[session]:
-                return ("wait", other, 0)
+        for start in range(1, self.at[session]):  # the starts below this end, smallest first
+            for other in range(self.m):
+                if (self.phase[other], self.at[other]) == ("active", start):
+                    return ("wait", other, 0)
         copies = len(self.mine[session])
         self.drop(session)
         return ("ok", 0, 4 * copies + 1)
@@ -347,8 +348,52 @@ def edges(st):
     more_edges(st)
 
 
+def settle_edge(st, caller, active, wanted, sealed=(), published=()):
+    """Settle by a session with end 6, N and M 16. The others by session and
+    number; session s copies record s, an active one only if s is odd."""
+    desk, image = st.new_desk(9, 16, 16), laid(st, 16, 16)
+    entries = [("active", s, start) for s, start in active] + [("sealed", s, at) for s, at in sealed]
+    entries += [("published", s, end) for s, end in [(caller, 6), *published]]
+    for phase, session, number in entries:
+        copies = [] if phase == "active" and session % 2 == 0 else [[session, [1, 2, 3, session]]]
+        desk["sessions"][session] = st.entry(phase, number, copies)
+        for record, _ in copies:
+            desk["marks"][record] = session
+    done = st.settle(image, desk, 48, caller)
+    same(answer_of(done), wanted, "settle by %d, active %s" % (caller, active))
+    if wanted[0] == "wait":
+        same((done["desk"], done["image"], done["entries"]), (desk, image, []), "wait leaves all")
+    else:
+        home = [(4 + 4 * caller + i, word) for i, word in enumerate([1, 2, 3, caller])]
+        same(done["entries"], home + [FENCE], "entries of settle")
+        same(done["desk"]["sessions"][caller], st.entry("idle"), "settled")
+
+
+def settle_edges(st):
+    """Whom settle names (document 02, Req 01); starts below 6 are in the way."""
+    settle_edge(st, 0, [(1, 4), (5, 2)], ("wait", 5))               # the higher session sat longer
+    settle_edge(st, 3, [(1, 5), (2, 4), (5, 3), (15, 1)], ("wait", 15))
+    settle_edge(st, 7, [(1, 4), (5, 2), (9, 3)], ("wait", 5))       # neither the lowest nor the last
+    settle_edge(st, 15, [(0, 1), (1, 2), (2, 3)], ("wait", 0))      # the lowest has the smallest start
+    settle_edge(st, 0, [(4, 2), (9, 2)], ("wait", 4))               # equal starts: the lowest of them
+    settle_edge(st, 0, [(2, 3), (5, 3), (7, 5)], ("wait", 2))
+    settle_edge(st, 0, [(1, 5), (4, 2), (9, 2), (12, 3)], ("wait", 4))  # a lower one with a larger start
+    settle_edge(st, 10, [(0, 4), (1, 3), (6, 1), (7, 1), (15, 1)], ("wait", 6))
+    settle_edge(st, 1, [(0, 6)], ("ok", 0))                         # a start at the end is not in the way
+    settle_edge(st, 1, [(0, 6), (2, 7), (15, 9)], ("ok", 0))
+    settle_edge(st, 1, [(0, 6), (7, 5)], ("wait", 7))               # nor is it named
+    settle_edge(st, 1, [(0, 6), (2, 6), (4, 5), (5, 5), (6, 7)], ("wait", 4))
+    settle_edge(st, 0, [], ("ok", 0))                               # the caller is not in its own way
+    settle_edge(st, 0, [(15, 5)], ("wait", 15))
+    settle_edge(st, 5, [], ("ok", 0), [(0, 1), (6, 2)], [(1, 2), (7, 3)])  # nor sealed and published ones
+    settle_edge(st, 5, [(8, 6)], ("ok", 0), [(0, 1), (6, 2)], [(1, 2), (7, 3)])
+    settle_edge(st, 5, [(8, 4)], ("wait", 8), [(0, 1), (6, 2)], [(1, 2), (7, 3)])
+    settle_edge(st, 5, [(2, 5), (8, 4), (9, 4)], ("wait", 8), [(0, 4), (6, 1)], [(1, 4), (7, 2)])
+
+
 def more_edges(st):
     """Further cases that the rules fix."""
+    settle_edges(st)
     image = slot_put(st, slot_put(st, laid(st, 4, 2), 1, 7, [2]), 2, 7, [3])
     done = st.recover(image, 48)  # equal numbers: lowest place first
     same((answer_of(done), done["entries"][-2]), (("replayed", 7), (4 + 16 + 22, 0)), "equal numbers")
@@ -396,21 +441,33 @@ def program_lines(st):
     same(lines("000202 0903 0100 0400 0400")[3:], ["4 finish 0 empty", "4 open", "5 finish 0 no 6"],
          "cut of an empty finish")
     same(lines("000202 0903 0700")[2:], ["3 reclaim 0 none", "3 open"], "cut of none")
+    same(lines("000204 0102 0100 030000" + five + "0400 0500 0101 0103 030301" + five
+               + "0403 0503 0603 0600 0402 0603 0600 0801 0603")[11:],
+         ["12 settle 3 wait 2", "13 settle 0 wait 2", "14 finish 2 empty", "15 settle 3 wait 1",
+          "16 settle 0 ok", "17 abandon 1 ok", "18 settle 3 ok"], "settle waits for the smallest start")
 
 
 def answers(st):
     """Every answer of random schedules foreseen; shape of the entries."""
+    waits = above = 0  # above: a session below the one named is in the way too
     for run in range(int(350 * SHARE)):
         rng = random.Random("answers/%d" % run)
-        big = run % 50 == 49
+        big = run % 10 == 9  # with few sessions or few steps settle seldom has a choice
         trial = Trial(st, rng, *((40, 16) if big else ()))
-        for _ in range(120):
+        for _ in range(360 if big else 120):
             step = trial.choose()
             done = trial.made(*step)
             wanted = trial.foresight.step(*step[:3])
             same((*answer_of(done), len(done["entries"])), wanted, "%s in run %d" % (step[0], run))
             check_shape(st, trial, step, done)
             trial.take(step, done)
+            if wanted[0] == "wait":
+                waits += 1
+                phase, at = trial.foresight.phase, trial.foresight.at
+                above += any(phase[s] == "active" and at[s] < at[step[1]] for s in range(wanted[1]))
+    if above < 100 * SHARE:
+        raise AssertionError("too few waits for another than the lowest: %d of %d" % (above, waits))
+    return "wait %d, for another than the lowest in the way %d" % (waits, above)
 
 
 def check_shape(st, trial, step, done):
@@ -628,16 +685,23 @@ ALL = BY_MODEL + [raw_cases, stream_kinds]
 FAULTS = [
     ("persist number stored in the body's fence group",
      "[FENCE, (at, number), FENCE]", "[(at, number), FENCE]"),
-    ("settle without waiting",
-     'if e["phase"] == "active" and e["number"] < own["number"]:', "if False:"),
+    ("settle without waiting", "if in_the_way:", "if False:"),
     ("settle waits for sealed and published sessions too",
-     'if e["phase"] == "active" and e["number"] < own["number"]:',
-     'if e["phase"] != "idle" and e["number"] < own["number"]:'),
+     'if e["phase"] == "active" and e["number"] < own["number"]]',
+     'if e["phase"] != "idle" and e["number"] < own["number"]]'),
     ("settle waits at an equal start",
-     'if e["phase"] == "active" and e["number"] < own["number"]:',
-     'if e["phase"] == "active" and e["number"] <= own["number"]:'),
+     'if e["phase"] == "active" and e["number"] < own["number"]]',
+     'if e["phase"] == "active" and e["number"] <= own["number"]]'),
     ("settle answers wait at once",
-     'if e["phase"] == "active" and e["number"] < own["number"]:', "if True:"),
+     'if e["phase"] == "active" and e["number"] < own["number"]]', "if True]"),
+    ("settle names the lowest session in the way", "min(in_the_way)", "in_the_way[0]"),
+    ("settle names the last among equal starts",
+     "min(in_the_way)", "min(in_the_way, key=lambda way: (way[0], -way[1]))"),
+    ("settle names the largest start",
+     "min(in_the_way)", "max(in_the_way, key=lambda way: (way[0], -way[1]))"),
+    ("settle names a sealed or published session too",
+     "min(in_the_way)", 'min((e["number"], s) for s, e in enumerate(desk["sessions"])\n'
+     '                       if e["phase"] != "idle")'),
     ("settle without a fence", "to_home(copies_of(own)) + [FENCE]", "to_home(copies_of(own))"),
     ("reclaim although an older log is occupied", "if smallest < number:", "if False:"),
     ("reclaim answers held at once", "if smallest < number:", "if True:"),

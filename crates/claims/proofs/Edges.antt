@@ -6,7 +6,7 @@ use Rattle.layout.specs.Image.{shapedB, occupiedB}
 use Rattle.layout.specs.Lay.{layFault, layAnswer}
 use Rattle.layout.specs.Homes.{homesWrites}
 use Rattle.journal.specs.Log.{bodyWrites, unsoundB, sharedB}
-use Rattle.journal.specs.Oldest.{oldestOf}
+use Rattle.layout.specs.Oldest.{oldestOf}
 use Rattle.desk.specs.Desk.{unmarked}
 use Rattle.desk.specs.Coherent.{freshB, placesOk, sessionOk, copiesB, coherentB}
 use Rattle.desk.specs.Entering.{entryFault}

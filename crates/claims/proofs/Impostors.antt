@@ -4,7 +4,7 @@ use Prim.Native.Nat.{ℕ, zero, suc, _<_}
 use mathlib.Core.Bool.{Bool, true, false, cond, _&&_, not, false≢true}
 use mathlib.Core.List.{List, [], _∷_, _++_, append-nil, append-assoc}
 use mathlib.Core.Option.{some}
-use mathlib.Core.Path.{_≡_, refl, sym, ap, _∙_, subst}
+use mathlib.Core.Path.{_≡_, refl, sym, ap, _∙_, subst, fun-ext}
 use native.Mathlib.Omega.{arith}
 use borrow.Author.Tests.{eqb-false, lt-ltb}
 use lib.ListN.{length, getD, take, set}
@@ -17,21 +17,22 @@ use Rattle.layout.specs.Entries.{Entry, store, fence, made, endsFenced}
 use Rattle.layout.specs.Homes.{homesWrites}
 use Rattle.layout.specs.Image.{shapedB, occupiedB, slotAt}
 use Rattle.layout.specs.Lay.{emptyImage}
-use Rattle.layout.specs.Told.{Told, ok, start, home, wait, held, clean, replayed, codeTold, isRefusal, wordsTold}
+use Rattle.layout.specs.Told.{Told, ok, start, home, wait, held, clean, replayed, codeTold, isRefusal, valueOf, wordsTold}
 use Rattle.layout.proofs.Says.{by-test}
 use Rattle.journal.specs.Log.{bodyWrites, unsoundB, sharedB}
-use Rattle.journal.specs.Oldest.{oldestOf}
+use Rattle.layout.specs.Oldest.{oldestOf}
 use Rattle.desk.specs.Desk.{sessionAt, markAt, isSealed}
 use Rattle.desk.specs.declared.state.Phase.{Phase}
 use Rattle.desk.specs.declared.state.Phase.the-variants.{Idle, Active, Sealed, Published}
 use Rattle.desk.specs.declared.state.Desk.{Desk}
 use Rattle.layout.specs.Tidy.{Tidy}
 use Rattle.commit.specs.Finish.{finishFault}
+use Rattle.commit.specs.Settle.{endOf, startBelow}
 use Rattle.commit.specs.Reclaim.{clearEntries}
 use Rattle.recovery.specs.Open.{openFault, openReply}
 use Rattle.recovery.specs.Recover.{unsoundPlace, tiedBelow, tiesB, recoverFault, firstLog, recoverRefused, recoverReply, recoverEntries}
 use Rattle.history.specs.Call.{Call, begin, read, write, finish, publish, settle, reclaim}
-use Rattle.history.specs.Desk.{Copy, idle, sealed, Desk as Txns, upd, firstOf, holder}
+use Rattle.history.specs.Desk.{Copy, Session as Txn, idle, active, sealed, published, Desk as Txns, upd, firstOf, holder}
 use Rattle.history.specs.Due.{smallest, due}
 use Rattle.history.specs.Cut.{feedCut}
 use Rattle.history.specs.History.{History, feed}
@@ -40,17 +41,17 @@ use Rattle.claims.specs.Rules.{Reply, Rules, storeRules}
 use Rattle.claims.specs.Run.{World, opened, openLedger, reply, step, run, stored}
 use Rattle.claims.specs.Recovery.{replays, afterCalls, afterStop, afterAttempts, afterWhole, Ends}
 use Rattle.claims.specs.Demands.{Demand2, Demand3, Cut, during, cutImage, cutHistory, Recovered}
-use Rattle.claims.specs.Impostors.{Impostors, Change, kindOf, past, telling, relisting, zeroing, miscounting, clearingEarly, waitingForAll, showingSealed, busyOther, heldSealed, sealedCopy, turnsAway, waitsAtOnce, holdsAtOnce, readsZeros, zeroed, doesNothing, storesNothing, saysClean, clearing, clearsOthers, withoutLast, unfencedAt, replaysOne, miscounts, unfenced, oneGroup, sessionOrder, clearsEarly, waitsForAll, showsSealed}
-use Rattle.claims.proofs.Abstraction.{txn-of, copiesOf, marked}
+use Rattle.claims.specs.Impostors.{Impostors, Change, kindOf, past, telling, relisting, zeroing, miscounting, clearingEarly, waitingForAll, showingSealed, busyOther, heldSealed, sealedCopy, turnsAway, waitsAtOnce, holdsAtOnce, readsZeros, zeroed, doesNothing, storesNothing, saysClean, clearing, clearsOthers, withoutLast, unfencedAt, replaysOne, miscounts, unfenced, oneGroup, sessionOrder, clearsEarly, waitsForAll, showsSealed, startsFor, namingBy, names, lowestReader, lastReader, newestReader}
+use Rattle.claims.proofs.Abstraction.{txn-of, copiesOf, pack, marked}
 use Rattle.claims.proofs.Entering.{holder-named}
 use Rattle.claims.proofs.Along.{Along, same, step-along, run-along, opened-along, call-fenced}
 use Rattle.claims.proofs.Lists.{lists}
 
 -- ---- what is due along a run
 
--- a store of two records and two sessions
+-- a store of two records and four sessions
 abbrev image : List ℕ
-image = emptyImage 2 2
+image = emptyImage 2 4
 
 -- image and ledger
 record Seen : Type 0 where
@@ -61,7 +62,7 @@ abbrev shown : World → Seen
 shown w = record { image = w .image; ledger = w .ledger }
 
 abbrev next : Seen → Call → Seen
-next v c = record { image = made (due 2 2 (v .ledger) c .entries) (v .image); ledger = note c (due 2 2 (v .ledger) c .answer) (v .ledger) }
+next v c = record { image = made (due 2 4 (v .ledger) c .entries) (v .image); ledger = note c (due 2 4 (v .ledger) c .answer) (v .ledger) }
 
 seen : List Call → Seen → Seen
 seen [] v = v
@@ -70,23 +71,23 @@ seen (c ∷ cs) v = seen cs (next v c)
 -- and all that is stored
 due-stored : List Call → Seen → List Entry
 due-stored [] v = []
-due-stored (c ∷ cs) v = due 2 2 (v .ledger) c .entries ++ due-stored cs (next v c)
+due-stored (c ∷ cs) v = due 2 4 (v .ledger) c .entries ++ due-stored cs (next v c)
 
-step-seen : (w : World) (a : Along 2 2 w) (c : Call) → shown (step storeRules w c) ≡ next (shown w) c
+step-seen : (w : World) (a : Along 2 4 w) (c : Call) → shown (step storeRules w c) ≡ next (shown w) c
 unfolding step
-step-seen w a c = rw (same 2 2 w a c .stored, same 2 2 w a c .answers) refl
+step-seen w a c = rw (same 2 4 w a c .stored, same 2 4 w a c .answers) refl
 
-run-seen : (calls : List Call) (w : World) → Along 2 2 w → shown (run storeRules calls w) ≡ seen calls (shown w)
+run-seen : (calls : List Call) (w : World) → Along 2 4 w → shown (run storeRules calls w) ≡ seen calls (shown w)
 unfolding run seen
 run-seen [] w a = refl
-run-seen (c ∷ cs) w a = run-seen cs (step storeRules w c) (step-along 2 2 w a c) ∙ ap (seen cs) (step-seen w a c)
+run-seen (c ∷ cs) w a = run-seen cs (step storeRules w c) (step-along 2 4 w a c) ∙ ap (seen cs) (step-seen w a c)
 
-stored-seen : (calls : List Call) (w : World) → Along 2 2 w → stored storeRules calls w ≡ due-stored calls (shown w)
+stored-seen : (calls : List Call) (w : World) → Along 2 4 w → stored storeRules calls w ≡ due-stored calls (shown w)
 unfolding stored due-stored
 stored-seen [] w a = refl
 stored-seen (c ∷ cs) w a =
-    ap (λ (es : List Entry). es ++ stored storeRules cs (step storeRules w c)) (same 2 2 w a c .stored)
-    ∙ ap (λ (es : List Entry). due 2 2 (w .ledger) c .entries ++ es) (stored-seen cs (step storeRules w c) (step-along 2 2 w a c) ∙ ap (due-stored cs) (step-seen w a c))
+    ap (λ (es : List Entry). es ++ stored storeRules cs (step storeRules w c)) (same 2 4 w a c .stored)
+    ∙ ap (λ (es : List Entry). due 2 4 (w .ledger) c .entries ++ es) (stored-seen cs (step storeRules w c) (step-along 2 4 w a c) ∙ ap (due-stored cs) (step-seen w a c))
 
 -- ---- from the opening
 
@@ -107,20 +108,20 @@ after-is : (calls : List Call) → run storeRules calls (opened storeRules image
 unfolding after
 after-is calls = refl
 
-along : (calls : List Call) → Along 2 2 (after calls)
+along : (calls : List Call) → Along 2 4 (after calls)
 unfolding after
-along calls = run-along 2 2 calls _ (opened-along image opens)
+along calls = run-along 2 4 calls _ (opened-along image opens)
 
 after-expected : (calls : List Call) → shown (after calls) ≡ expected calls
 unfolding after expected
 after-expected calls = run-seen calls _ (opened-along image opens)
 
 -- what the store tells and stores next
-told-next : (calls : List Call) (c : Call) → reply storeRules (after calls) c .told ≡ due 2 2 (expected calls .ledger) c .answer
-told-next calls c = same 2 2 (after calls) (along calls) c .answers ∙ ap (λ (v : Seen). due 2 2 (v .ledger) c .answer) (after-expected calls)
+told-next : (calls : List Call) (c : Call) → reply storeRules (after calls) c .told ≡ due 2 4 (expected calls .ledger) c .answer
+told-next calls c = same 2 4 (after calls) (along calls) c .answers ∙ ap (λ (v : Seen). due 2 4 (v .ledger) c .answer) (after-expected calls)
 
-stores-next : (calls : List Call) (c : Call) → reply storeRules (after calls) c .entries ≡ due 2 2 (expected calls .ledger) c .entries
-stores-next calls c = same 2 2 (after calls) (along calls) c .stored ∙ ap (λ (v : Seen). due 2 2 (v .ledger) c .entries) (after-expected calls)
+stores-next : (calls : List Call) (c : Call) → reply storeRules (after calls) c .entries ≡ due 2 4 (expected calls .ledger) c .entries
+stores-next calls c = same 2 4 (after calls) (along calls) c .stored ∙ ap (λ (v : Seen). due 2 4 (v .ledger) c .entries) (after-expected calls)
 
 -- ---- a run of calls on which R does what the store does
 
@@ -156,7 +157,7 @@ unlike-words : {t u : Told} → t ≡ u → eqb (getD (wordsTold t) 0 0) (getD (
 unlike-words e b = eqb-false _ _ b (ap (λ (t : Told). getD (wordsTold t) 0 0) e)
 
 -- a call of the kind that is changed, where the store does not refuse it
-changed : (kind : ℕ) (change : Change) (calls : List Call) (c : Call) → eqb (kindOf c) kind ≡ true → isRefusal (due 2 2 (expected calls .ledger) c .answer) ≡ false
+changed : (kind : ℕ) (change : Change) (calls : List Call) (c : Call) → eqb (kindOf c) kind ≡ true → isRefusal (due 2 4 (expected calls .ledger) c .answer) ≡ false
     → reply (past kind change) (after calls) c ≡ change (after calls .image) (after calls .desk) c (reply storeRules (after calls) c)
 unfolding reply
 changed kind change calls c k n = rw (k, ap isRefusal (told-next calls c) ∙ n) refl
@@ -171,10 +172,10 @@ module _ (R : Rules) (calls : List Call) (a : Alike (opening-as R) calls) where
   ran = alike-run (opening-as R) calls (opened storeRules image) a
 
   -- demand 2 of the call c
-  answers : Demand2 (opening-as R) → (c : Call) → reply (opening-as R) (after calls) c .told ≡ due 2 2 (expected calls .ledger) c .answer
+  answers : Demand2 (opening-as R) → (c : Call) → reply (opening-as R) (after calls) c .told ≡ due 2 4 (expected calls .ledger) c .answer
   answers h c =
-      subst (λ (w : World). reply (opening-as R) w c .told ≡ due 2 2 (w .ledger) c .answer) ran (h image opens calls c)
-      ∙ ap (λ (v : Seen). due 2 2 (v .ledger) c .answer) (after-expected calls)
+      subst (λ (w : World). reply (opening-as R) w c .told ≡ due 2 4 (w .ledger) c .answer) ran (h image opens calls c)
+      ∙ ap (λ (v : Seen). due 2 4 (v .ledger) c .answer) (after-expected calls)
 
 -- ---- the runs
 
@@ -199,9 +200,9 @@ twice = settling ++ sealing 0 0 9
 -- ---- demand 2
 
 -- demand 2 of a call that is changed
-past-answers : (kind : ℕ) (change : Change) (calls : List Call) (c : Call) → eqb (kindOf c) kind ≡ true → isRefusal (due 2 2 (expected calls .ledger) c .answer) ≡ false
+past-answers : (kind : ℕ) (change : Change) (calls : List Call) (c : Call) → eqb (kindOf c) kind ≡ true → isRefusal (due 2 4 (expected calls .ledger) c .answer) ≡ false
     → Alike (opening-as (past kind change)) calls → Demand2 (past kind change)
-    → change (after calls .image) (after calls .desk) c (reply storeRules (after calls) c) .told ≡ due 2 2 (expected calls .ledger) c .answer
+    → change (after calls .image) (after calls .desk) c (reply storeRules (after calls) c) .told ≡ due 2 4 (expected calls .ledger) c .answer
 past-answers kind change calls c k n a h = ap (λ (y : Reply). y .told) (sym (changed kind change calls c k n)) ∙ answers (past kind change) calls a h c
 
 -- a start is due
@@ -229,8 +230,8 @@ does-nothing : Demand2 doesNothing → ⊥
 unfolding expected run step after
 does-nothing h = go (reply storeRules (after []) (begin 0) .told) (told-next [] (begin 0)) (h image opens (begin 0 ∷ []) (begin 0))
   where
-    go : (t : Told) → t ≡ start 1 → t ≡ due 2 2 (note (begin 0) t (openLedger image)) (begin 0) .answer → ⊥
-    go t e f = unlike-told (sym e ∙ f ∙ ap (λ (u : Told). due 2 2 (note (begin 0) u (openLedger image)) (begin 0) .answer) e) refl
+    go : (t : Told) → t ≡ start 1 → t ≡ due 2 4 (note (begin 0) t (openLedger image)) (begin 0) .answer → ⊥
+    go t e f = unlike-told (sym e ∙ f ∙ ap (λ (u : Told). due 2 4 (note (begin 0) u (openLedger image)) (begin 0) .answer) e) refl
 
 -- the store's session is sealed where the ledger's is
 sealed-phase : (p : Phase) (q n r : ℕ) (cs ds : List Copy) → txn-of p q cs ≡ sealed n r ds → isSealed p ≡ true
@@ -239,10 +240,14 @@ sealed-phase Idle q n r cs ds e = let z : _≡_ {A = ℕ} 0 1 = cc in absurd (om
 sealed-phase (Active b) q n r cs ds e = let z : _≡_ {A = ℕ} 0 1 = cc in absurd (omega arith)
 sealed-phase (Published m) q n r cs ds e = let z : _≡_ {A = ℕ} 0 1 = cc in absurd (omega arith)
 
+-- the store's session is the ledger's
+session-after : (calls : List Call) (t : ℕ) → pack (sessionAt (after calls .desk) t) ≡ expected calls .ledger .desk .session t
+session-after calls t = ap (λ (d : Txns). d .session t) (sym (along calls .linked)) ∙ ap (λ (v : Seen). v .ledger .desk .session t) (after-expected calls)
+
 sealed-after : (calls : List Call) (t n r : ℕ) (ds : List Copy) → expected calls .ledger .desk .session t ≡ sealed n r ds → isSealed (sessionAt (after calls .desk) t .phase) ≡ true
 sealed-after calls t n r ds e =
     sealed-phase (sessionAt (after calls .desk) t .phase) (sessionAt (after calls .desk) t .slot) n r (copiesOf (sessionAt (after calls .desk) t)) ds
-    (ap (λ (d : Txns). d .session t) (sym (along calls .linked)) ∙ ap (λ (v : Seen). v .ledger .desk .session t) (after-expected calls) ∙ e)
+    (session-after calls t ∙ e)
 
 -- where one session is sealed, settle waits for it
 waits-sealed : (calls : List Call) (s t n r : ℕ) (ds : List Copy) → expected calls .ledger .desk .session t ≡ sealed n r ds → t < 16 → eqb t s ≡ false
@@ -267,12 +272,12 @@ waits-for-all h =
     go y e = rw (e, waits-sealed calls 0 1 _ _ _ refl (omega arith) refl) refl
 
 -- a record that the ledger's session t holds is marked for it
-mark-after : (calls : List Call) (r t : ℕ) → r < 2 → holder 2 (expected calls .ledger .desk) r ≡ some t → markAt (after calls .desk) r ≡ suc t
+mark-after : (calls : List Call) (r t : ℕ) → r < 2 → holder 4 (expected calls .ledger .desk) r ≡ some t → markAt (after calls .desk) r ≡ suc t
 mark-after calls r t l e =
     go (markAt (after calls .desk) r)
-    (sym (holder-named 2 2 (after calls .image) (after calls .desk) (along calls .ready) r l)
-    ∙ ap (λ (d : Txns). holder 2 d r) (sym (along calls .linked))
-    ∙ ap (λ (v : Seen). holder 2 (v .ledger .desk) r) (after-expected calls)
+    (sym (holder-named 2 4 (after calls .image) (after calls .desk) (along calls .ready) r l)
+    ∙ ap (λ (d : Txns). holder 4 d r) (sym (along calls .linked))
+    ∙ ap (λ (v : Seen). holder 4 (v .ledger .desk) r) (after-expected calls)
     ∙ e)
   where
     go : (n : ℕ) → marked n ≡ some t → n ≡ suc t
@@ -297,6 +302,70 @@ shows-sealed h =
 
     go : (y : Reply) → y .told ≡ home (0 ∷ 0 ∷ 0 ∷ 0 ∷ []) → showingSealed (after calls .image) d (read 0 0) y .told ≡ sealedCopy d 0
     go y e = rw (e, held-sealed) refl
+
+-- ---- the reader that settle names
+
+-- an end, and a start below it, of the ledger's sessions
+abbrev end-in : Txn → ℕ
+end-in idle = 0
+end-in (active b q cs) = 0
+end-in (sealed n q cs) = 0
+end-in (published e q cs) = e
+
+abbrev start-in : ℕ → Txn → ℕ
+start-in end idle = 0
+start-in end (active b q cs) = cond (ltb b end) b 0
+start-in end (sealed n q cs) = 0
+start-in end (published e q cs) = 0
+
+end-same : (p : Phase) (q : ℕ) (cs : List Copy) → endOf p ≡ end-in (txn-of p q cs)
+end-same Idle q cs = refl
+end-same (Active b) q cs = refl
+end-same (Sealed n) q cs = refl
+end-same (Published e) q cs = refl
+
+start-same : (end : ℕ) (p : Phase) (q : ℕ) (cs : List Copy) → startBelow end p ≡ start-in end (txn-of p q cs)
+start-same end Idle q cs = refl
+start-same end (Active b) q cs = refl
+start-same end (Sealed n) q cs = refl
+start-same end (Published e) q cs = refl
+
+-- demand 2 of a settle that names the session picked: it is the one that is due
+named : (pick : (ℕ → ℕ) → ℕ) (calls : List Call) (s v : ℕ) → due 2 4 (expected calls .ledger) (settle 48 s) .answer ≡ wait v
+    → Alike (opening-as (names pick)) calls → Demand2 (names pick)
+    → pick (λ t. start-in (end-in (expected calls .ledger .desk .session s)) (expected calls .ledger .desk .session t)) ≡ v
+named pick calls s v w a h =
+    ap pick (sym (fun-ext starts))
+    ∙ ap valueOf (sym (go (reply storeRules (after calls) (settle 48 s)) (told-next calls (settle 48 s) ∙ w))
+    ∙ past-answers 6 (namingBy pick) calls (settle 48 s) refl (ap isRefusal w) a h ∙ w)
+  where
+    d : Desk
+    d = after calls .desk
+
+    starts : (t : ℕ) → startsFor (after calls .desk) s t ≡ start-in (end-in (expected calls .ledger .desk .session s)) (expected calls .ledger .desk .session t)
+    starts t =
+        start-same (endOf (sessionAt d s .phase)) (sessionAt d t .phase) (sessionAt d t .slot) (copiesOf (sessionAt d t))
+        ∙ rw (end-same (sessionAt d s .phase) (sessionAt d s .slot) (copiesOf (sessionAt d s)), session-after calls s, session-after calls t) refl
+
+    go : (y : Reply) → y .told ≡ wait v → namingBy pick (after calls .image) d (settle 48 s) y .told ≡ wait (pick (startsFor d s))
+    go y e = rw e refl
+
+-- session 2 reads from the start on and session 0 from the end of session 3 on, both below the end of session 1
+abbrev waiting : List Call
+waiting = begin 2 ∷ sealing 3 0 5 ++ publish 3 ∷ begin 0 ∷ sealing 1 1 9 ++ publish 1 ∷ []
+
+names-lowest : Demand2 (names lowestReader) → ⊥
+unfolding expected
+names-lowest h = eqb-false _ _ refl (named lowestReader waiting 1 2 refl (search depth 14) h)
+
+names-newest : Demand2 (names newestReader) → ⊥
+unfolding expected
+names-newest h = eqb-false _ _ refl (named newestReader waiting 1 2 refl (search depth 14) h)
+
+-- sessions 0 and 1 have equal starts
+names-last : Demand2 (names lastReader) → ⊥
+unfolding expected
+names-last h = eqb-false _ _ refl (named lastReader (begin 0 ∷ begin 1 ∷ sealing 2 0 5 ++ publish 2 ∷ []) 2 0 refl (search depth 9) h)
 
 -- ---- demand 3
 
@@ -388,19 +457,19 @@ stored-last R (x ∷ xs) c w =
     ∙ sym (append-assoc (reply R w x .entries) (stored R xs (step R w x)) _)
 
 module _ (kind : ℕ) (g : List Entry → List Entry) (calls : List Call) (c : Call) (k : eqb (kindOf c) kind ≡ true)
-    (n : isRefusal (due 2 2 (expected calls .ledger) c .answer) ≡ false) (a : Alike (opening-as (past kind (relisting g))) calls) where
+    (n : isRefusal (due 2 4 (expected calls .ledger) c .answer) ≡ false) (a : Alike (opening-as (past kind (relisting g))) calls) where
   abbrev Q : Rules
   Q = opening-as (past kind (relisting g))
 
   -- the call tells what is due
-  relisted-told : reply Q (after calls) c .told ≡ due 2 2 (expected calls .ledger) c .answer
+  relisted-told : reply Q (after calls) c .told ≡ due 2 4 (expected calls .ledger) c .answer
   relisted-told = ap (λ (y : Reply). y .told) (changed kind (relisting g) calls c k n) ∙ told-next calls c
 
   -- and stores the changed list
-  relisted-entries : reply Q (after calls) c .entries ≡ g (due 2 2 (expected calls .ledger) c .entries)
+  relisted-entries : reply Q (after calls) c .entries ≡ g (due 2 4 (expected calls .ledger) c .entries)
   relisted-entries = ap (λ (y : Reply). y .entries) (changed kind (relisting g) calls c k n) ∙ ap g (stores-next calls c)
 
-  relisted-stored : stored Q (calls ++ (c ∷ [])) (opened storeRules image) ≡ due-stored calls first-seen ++ g (due 2 2 (expected calls .ledger) c .entries)
+  relisted-stored : stored Q (calls ++ (c ∷ [])) (opened storeRules image) ≡ due-stored calls first-seen ++ g (due 2 4 (expected calls .ledger) c .entries)
   relisted-stored =
       stored-last Q calls c (opened storeRules image)
       ∙ ap (λ (es : List Entry). es ++ reply Q (run Q calls (opened storeRules image)) c .entries) (stored-expected (past kind (relisting g)) calls a)
@@ -412,18 +481,18 @@ module _ (kind : ℕ) (g : List Entry → List Entry) (calls : List Call) (c : C
   behind = during (calls ++ (c ∷ [])) (begin 0) 0 (λ i. false)
 
   abbrev left-behind : List ℕ
-  left-behind = arrived (λ i. false) 0 ((due-stored calls first-seen ++ g (due 2 2 (expected calls .ledger) c .entries)) ++ []) image
+  left-behind = arrived (λ i. false) 0 ((due-stored calls first-seen ++ g (due 2 4 (expected calls .ledger) c .entries)) ++ []) image
 
-  behind-history : cutHistory Q image behind ≡ feed c (due 2 2 (expected calls .ledger) c .answer) (expected calls .ledger .history)
+  behind-history : cutHistory Q image behind ≡ feed c (due 2 4 (expected calls .ledger) c .answer) (expected calls .ledger .history)
   unfolding step note
   behind-history =
       ap (λ (w : World). w .ledger .history) (run-last Q calls c (opened storeRules image))
       ∙ ap (λ (w : World). feed c (reply Q w c .told) (w .ledger .history)) (ran (past kind (relisting g)) calls a)
       ∙ ap (λ (t : Told). feed c t (after calls .ledger .history)) relisted-told
-      ∙ ap (λ (v : Seen). feed c (due 2 2 (expected calls .ledger) c .answer) (v .ledger .history)) (after-expected calls)
+      ∙ ap (λ (v : Seen). feed c (due 2 4 (expected calls .ledger) c .answer) (v .ledger .history)) (after-expected calls)
 
   recovers-behind : Demand3 Q → (whole : List ℕ) → Q .recover (afterCalls Q whole left-behind) 48 .told ≡ clean
-      → Recovered Q image (feed c (due 2 2 (expected calls .ledger) c .answer) (expected calls .ledger .history))
+      → Recovered Q image (feed c (due 2 4 (expected calls .ledger) c .answer) (expected calls .ledger .history))
       (afterStop Q (whole ++ (48 ∷ [])) (λ i. true) left-behind)
   unfolding reply
   recovers-behind d whole e =
@@ -462,7 +531,7 @@ one-group h = stuck oneGroup _ refl (subst (λ (j : List ℕ). Ends oneGroup (λ
     cut : Cut
     cut = during writing (finish 48 1) 7 (λ n. eqb n 6)
 
-    image-is : cutImage oneGroup image cut ≡ arrived (λ n. eqb n 6) 0 (due-stored writing first-seen ++ take 7 (unfenced (due 2 2 (expected writing .ledger) (finish 48 1) .entries))) image
+    image-is : cutImage oneGroup image cut ≡ arrived (λ n. eqb n 6) 0 (due-stored writing first-seen ++ take 7 (unfenced (due 2 4 (expected writing .ledger) (finish 48 1) .entries))) image
     image-is = cut-expected oneGroup writing (search) (finish 48 1) 7 (λ n. eqb n 6) _ (relisted-entries 4 unfenced writing (finish 48 1) refl refl (search))
 
 -- ---- settle without its fence
@@ -502,14 +571,14 @@ settle-unfenced h = unlike (recovers (unfencedAt 6) h cut _ _ image-is history-i
     world-is = unfenced-run 6 settling (opened storeRules image) ∙ after-is settling
 
     image-is : cutImage (unfencedAt 6) image cut
-        ≡ arrived (λ n. eqb n 13) 0 ((due-stored publishing first-seen ++ withoutLast (due 2 2 (expected publishing .ledger) (settle 48 1) .entries))
-        ++ take 1 (due 2 2 (expected settling .ledger) (reclaim 48 1) .entries)) image
+        ≡ arrived (λ n. eqb n 13) 0 ((due-stored publishing first-seen ++ withoutLast (due 2 4 (expected publishing .ledger) (settle 48 1) .entries))
+        ++ take 1 (due 2 4 (expected settling .ledger) (reclaim 48 1) .entries)) image
     image-is =
         ap (λ (es : List Entry). arrived (λ n. eqb n 13) 0 (es ++ take 1 (reply (unfencedAt 6) (run (unfencedAt 6) settling (opened storeRules image)) (reclaim 48 1) .entries)) image)
         (relisted-stored 6 withoutLast publishing (settle 48 1) refl refl (search))
-        ∙ ap (λ (w : World). arrived (λ n. eqb n 13) 0 ((due-stored publishing first-seen ++ withoutLast (due 2 2 (expected publishing .ledger) (settle 48 1) .entries)) ++ take 1 (reply storeRules w (reclaim 48 1) .entries)) image)
+        ∙ ap (λ (w : World). arrived (λ n. eqb n 13) 0 ((due-stored publishing first-seen ++ withoutLast (due 2 4 (expected publishing .ledger) (settle 48 1) .entries)) ++ take 1 (reply storeRules w (reclaim 48 1) .entries)) image)
         world-is
-        ∙ ap (λ (es : List Entry). arrived (λ n. eqb n 13) 0 ((due-stored publishing first-seen ++ withoutLast (due 2 2 (expected publishing .ledger) (settle 48 1) .entries)) ++ take 1 es) image)
+        ∙ ap (λ (es : List Entry). arrived (λ n. eqb n 13) 0 ((due-stored publishing first-seen ++ withoutLast (due 2 4 (expected publishing .ledger) (settle 48 1) .entries)) ++ take 1 es) image)
         (stores-next settling (reclaim 48 1))
 
     history-is : cutHistory (unfencedAt 6) image cut ≡ expected settling .ledger .history
@@ -542,7 +611,7 @@ clears-early h = unlike (recovers clearsEarly h cut _ _ image-is history-is (48 
     idle-now : sessionAt d 0 .phase ≡ Idle
     idle-now =
         idle-phase (sessionAt d 0 .phase) (sessionAt d 0 .slot) (copiesOf (sessionAt d 0))
-        (ap (λ (e : Txns). e .session 0) (sym (along calls .linked)) ∙ ap (λ (v : Seen). v .ledger .desk .session 0) (after-expected calls))
+        (session-after calls 0)
 
     entries-are : clearEntries (after calls .image) d 0 ≡ store (slotAt 2 0) 0 ∷ fence ∷ []
     entries-are = rw (along calls .ready .n-same, idle-now, ap (λ (v : Seen). v .image) (after-expected calls)) refl
@@ -596,4 +665,7 @@ impostors =
       clears-early = clears-early;
       waits-for-all = waits-for-all;
       shows-sealed = shows-sealed;
+      names-lowest = names-lowest;
+      names-last = names-last;
+      names-newest = names-newest;
     }

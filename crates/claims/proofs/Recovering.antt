@@ -20,7 +20,7 @@ use Rattle.layout.specs.Entries.{Entry, made, endsFenced}
 use Rattle.layout.specs.Image.{recordsOf, sessionsOf, shapedB, homeAt, slotAt, slotWord, persistAt, occupiedAt}
 use Rattle.layout.specs.Told.{Told, refusal, clean, replayed, codeTold}
 use Rattle.journal.specs.Log.{unsoundB, countOf, recOf, wordsOf}
-use Rattle.journal.proofs.Least.{Least, oldest-is}
+use Rattle.layout.proofs.Least.{Least, oldest-is}
 use Rattle.layout.proofs.Says.{says-any, says-not}
 use Rattle.layout.proofs.Shape.{says-shaped}
 use Rattle.recovery.specs.Recover.{slotsOf, logAt, unsoundPlace, tiedBelow, tiesB, recoverFault, firstLog, cleanB, replayEntries, recoverEntries, recoverDone, recoverRefused, recoverReply}
@@ -111,15 +111,15 @@ module _ (N M : ℕ) (img : List ℕ) (w : Whole N M img) (g : Good N M img) whe
 
   -- recover finds no log, or the oldest
   abbrev Finds : Type 0
-  Finds = (Clean (2 * M) (view N img) × (firstLog img .persist ≡ 0)) ⊎ (Oldest (2 * M) (view N img) (firstLog img .place) × (firstLog img .persist ≢ 0))
+  Finds = (Clean (2 * M) (view N img) × (firstLog img .number ≡ 0)) ⊎ (Oldest (2 * M) (view N img) (firstLog img .place) × (firstLog img .number ≢ 0))
 
   pub finds : Finds
-  finds = go (ℕ-discrete (firstLog img .persist) 0)
+  finds = go (ℕ-discrete (firstLog img .number) 0)
     where
       least : Least (persistAt img N) (2 * M) (firstLog img)
       least = unfold firstLog in (rw (w .records, w .sessions) (oldest-is (persistAt img N) (2 * M)))
 
-      go : Dec (firstLog img .persist ≡ 0) → Finds
+      go : Dec (firstLog img .number ≡ 0) → Finds
       go (yes e) = inl (λ p l. number-is p ∙ least .none e p l, e)
       go (no n) = inr (
         record {
@@ -147,17 +147,17 @@ module _ (N M : ℕ) (img : List ℕ) (len : ℕ) (w : Whole N M img) (g : Good 
   tells-done room = ap (λ (r : RecoverReply). recoverTold (r .answer)) (answered-zero (recoverFault img len) _ _ (recover-passes room))
 
   -- without a log nothing, and "clean"
-  clean-entries : 48 ≤ len → firstLog img .persist ≡ 0 → recoverEntries img len ≡ []
+  clean-entries : 48 ≤ len → firstLog img .number ≡ 0 → recoverEntries img len ≡ []
   clean-entries room e = lists-done room ∙ rw (eq-eqb _ _ e)
 
-  clean-tells : 48 ≤ len → firstLog img .persist ≡ 0 → storeRules .recover img len .told ≡ clean
+  clean-tells : 48 ≤ len → firstLog img .number ≡ 0 → storeRules .recover img len .told ≡ clean
   clean-tells room e = tells-done room ∙ rw (eq-eqb _ _ e)
 
   -- else the oldest log is applied, and "replayed"
-  log-entries : 48 ≤ len → Oldest (2 * M) (view N img) (firstLog img .place) → firstLog img .persist ≢ 0 → recoverEntries img len ≡ replayAt N img (firstLog img .place)
+  log-entries : 48 ≤ len → Oldest (2 * M) (view N img) (firstLog img .place) → firstLog img .number ≢ 0 → recoverEntries img len ≡ replayAt N img (firstLog img .place)
   log-entries room o n = lists-done room ∙ rw (ne-eqb _ _ n, w .records, ← same-log N img (firstLog img .place) (g .sound (firstLog img .place) (o .occupied) .at-most))
 
-  log-tells : 48 ≤ len → firstLog img .persist ≢ 0 → storeRules .recover img len .told ≡ replayed (firstLog img .persist)
+  log-tells : 48 ≤ len → firstLog img .number ≢ 0 → storeRules .recover img len .told ≡ replayed (firstLog img .number)
   log-tells room n = tells-done room ∙ rw (ne-eqb _ _ n)
 
   -- without room it is refused
@@ -287,7 +287,7 @@ module _ (N M : ℕ) (x : ℕ → ℕ) (img : List ℕ) (w : Whole N M img) (g :
   after = call-follows N M img w g (48 + x 0) to-end
 
   -- at once
-  ends-now : firstLog img .persist ≡ 0 → Ends storeRules x img
+  ends-now : firstLog img .number ≡ 0 → Ends storeRules x img
   unfolding afterWhole
   ends-now e =
       record {
@@ -297,7 +297,7 @@ module _ (N M : ℕ) (x : ℕ → ℕ) (img : List ℕ) (w : Whole N M img) (g :
         then-clean = clean-tells N M img (48 + x 0) w g (omega arith) e;
       }
 
-  module _ (o : Oldest (2 * M) (view N img) (firstLog img .place)) (n : firstLog img .persist ≢ 0) where
+  module _ (o : Oldest (2 * M) (view N img) (firstLog img .place)) (n : firstLog img .number ≢ 0) where
     -- one log fewer
     fewer : suc (logsIn N M next) ≡ logsIn N M img
     fewer =
@@ -332,7 +332,7 @@ module _ (N M : ℕ) (x : ℕ → ℕ) (img : List ℕ) (w : Whole N M img) (g :
         }
       where
         each : (i : ℕ) → i < suc (e .calls) → (q : ℕ) × (storeRules .recover (afterWhole storeRules x i img) (48 + x i) .told ≡ replayed q)
-        each zero l = (firstLog img .persist, log-tells N M img (48 + x 0) w g (omega arith) n)
+        each zero l = (firstLog img .number, log-tells N M img (48 + x 0) w g (omega arith) n)
         each (suc i) l = e .replayed-each i (omega arith)
 
 pub ends : (k N M : ℕ) (x : ℕ → ℕ) (img : List ℕ) → Whole N M img → Good N M img → logsIn N M img ≤ k → Ends storeRules x img

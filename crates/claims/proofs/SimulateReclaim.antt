@@ -11,9 +11,9 @@ use lib.Dec.{eqb, leb, ltb}
 use borrow.Author.Tests.{eqb-true, eqb-false, eq-eqb, ne-eqb, leb-true, leb-false, le-ltb, lt-ltb}
 use Rattle.layout.specs.Checks.{first, answered}
 use Rattle.layout.specs.Image.{placeOf, slotAt, persistAt}
-use Rattle.journal.specs.Oldest.{oldestOf}
-use Rattle.journal.specs.declared.scan.Oldest.{Oldest}
-use Rattle.journal.proofs.Least.{oldest-is}
+use Rattle.layout.specs.Oldest.{oldestOf}
+use Rattle.layout.specs.declared.oldest.Oldest.{Oldest}
+use Rattle.layout.proofs.Least.{oldest-is}
 use Rattle.layout.proofs.Says.{by-test}
 use Rattle.desk.specs.Desk.{sessionAt, isSealed, isPublished}
 use Rattle.desk.specs.declared.state.Phase.{Phase}
@@ -57,8 +57,8 @@ turn used m = go used (eqb m 0) (eqb-true m 0) (eqb-false m 0)
 
 -- the choice is slot q with its number, or there is none
 abbrev Chosen : (ℕ → ℕ) → Oldest → Option ℕ → Type 0
-Chosen number b none = b .persist ≡ 0
-Chosen number b (some q) = (b .persist ≡ number q) × (b .place ≡ q) × (number q ≢ 0) × (q < 2)
+Chosen number b none = b .number ≡ 0
+Chosen number b (some q) = (b .number ≡ number q) × (b .place ≡ q) × (number q ≢ 0) × (q < 2)
 
 -- the older of two slots
 older-chosen : (f number : ℕ → ℕ) (b₀ b₁ : Bool) → Turn b₀ (f 0) (number 0) → Turn b₁ (f 1) (number 1)
@@ -84,10 +84,10 @@ free-unused (Published e) q slot cs = refl
 -- ---- the oldest log
 
 -- where some slot is occupied, both find the same number
-same-oldest : (f g : ℕ → ℕ) → ((p : ℕ) → f p ≡ g p) → (k p : ℕ) → p < k → g p ≢ 0 → oldestOf f k .persist ≡ smallest g k
+same-oldest : (f g : ℕ → ℕ) → ((p : ℕ) → f p ≡ g p) → (k p : ℕ) → p < k → g p ≢ 0 → oldestOf f k .number ≡ smallest g k
 same-oldest f g same k p l n =
     let b = oldest-is f k in
-    let some : oldestOf f k .persist ≢ 0 = λ z. n (sym (same p) ∙ b .none z p l) in
+    let some : oldestOf f k .number ≢ 0 = λ z. n (sym (same p) ∙ b .none z p l) in
     let at = b .some some in
     let up = smallest-below g k (oldestOf f k .place) (at .0) (λ z. some (sym (at .1) ∙ same _ ∙ z)) .0 in
     let low = smallest-among g k (smallest-below g k p l n .1) in
@@ -142,7 +142,7 @@ module _ (img : List ℕ) (d : Desk) (len s : ℕ) where
   -- by the slot to clear
   by-slot : s < d .m → (o : Option ℕ) → Chosen number (chosen img d s) o → Does d f (reclaim-call img d f len s) 0 (reclaims (d .n) (d .m) f s o)
   unfolding answered
-  by-slot l none z = rw (eq-eqb (chosen img d s .persist) 0 z) (says-only (reclaim len s) f d nothing refl)
+  by-slot l none z = rw (eq-eqb (chosen img d s .number) 0 z) (says-only (reclaim len s) f d nothing refl)
   by-slot l (some q) z =
       let left = ne-eqb (number q) 0 (z .2) in
       let old = same-oldest (persistAt img (d .n)) f number-is (2 * d .m) (placeOf s q) (omega (arith, z .3)) (z .2) in

@@ -1,20 +1,22 @@
--- Document 01, "To the testers" and "Wrong turns": each impostor is the store's rules with one change, and does not meet the demand that it
--- breaks. Every one opens as the store does, for without an opening there is no list of calls.
-use Prim.Native.Nat.{ℕ, zero, suc, _+_}
+-- Document 01, "To the testers" and "Wrong turns", and wrong readings of document 02: each impostor is the store's rules with one change, and
+-- does not meet the demand that it breaks. Every one opens as the store does, for without an opening there is no list of calls.
+use Prim.Native.Nat.{ℕ, zero, suc, _+_, _-_}
 use mathlib.Core.Bool.{Bool, _&&_, _||_, not, cond}
 use mathlib.Core.List.{List, [], _∷_, _++_}
 use lib.ListN.{length}
-use lib.Dec.{eqb, ltb}
-use Rattle.layout.specs.Below.{lowest}
+use lib.Dec.{eqb, leb, ltb}
+use Rattle.layout.specs.Below.{allBelow, lowest}
 use Rattle.layout.specs.Entries.{Entry, store, fence}
 use Rattle.layout.specs.Image.{recordsOf, slotAt, persistAt, occupiedAt}
+use Rattle.layout.specs.Oldest.{oldestOf}
 use Rattle.layout.specs.Tidy.{Tidy}
-use Rattle.layout.specs.Told.{Told, refused, result, refusal, copied, wait, held, cleared, clean, replayed, is, isRefusal, Ok, Home, Held}
+use Rattle.layout.specs.Told.{Told, refused, result, refusal, copied, wait, held, cleared, clean, replayed, is, isRefusal, Ok, Home, Wait, Held}
 use Rattle.desk.specs.Desk.{sessionAt, markAt, copyAt, isSealed, isPublished}
 use Rattle.desk.specs.declared.state.Desk.{Desk}
 use Rattle.snapshot.specs.Own.{ownPlace, zeroWords}
 use Rattle.snapshot.specs.Read.{holderEntry}
 use Rattle.commit.specs.Finish.{finishFault}
+use Rattle.commit.specs.Settle.{endOf, startBelow}
 use Rattle.commit.specs.Reclaim.{chosen, clearEntries}
 use Rattle.recovery.specs.Recover.{slotsOf, cleanB, firstLog, replayEntries}
 use Rattle.history.specs.Call.{Call, begin, read, write, abandon, finish, publish, settle, reclaim}
@@ -177,7 +179,7 @@ sessionOrder = replaying lowestLog (λ img. replayEntries img (lowestLog img))
 -- "clearing a settled log while an older one is occupied": where the store says held, the log is cleared
 abbrev pub clearingEarly : Change
 clearingEarly img d c y =
-    cond (is Held (y .told)) (storing (clearEntries img d (sessionOf c)) (tells (cleared (chosen img d (sessionOf c) .persist)) d)) y
+    cond (is Held (y .told)) (storing (clearEntries img d (sessionOf c)) (tells (cleared (chosen img d (sessionOf c) .number)) d)) y
 
 abbrev pub clearsEarly : Rules
 clearsEarly = past 7 clearingEarly
@@ -216,6 +218,31 @@ showingSealed img d c y = cond (is Home (y .told) && heldSealed d (recordRead c)
 abbrev pub showsSealed : Rules
 showsSealed = past 2 showingSealed
 
+-- ---- impostors that break document 02's Req 01
+
+-- the starts of the sessions in the way of session s, 0 for the others
+abbrev pub startsFor : Desk → ℕ → ℕ → ℕ
+startsFor d s t = startBelow (endOf (sessionAt d s .phase)) (sessionAt d t .phase)
+
+-- settle that waits where the store does, and names the session that these starts have it pick
+abbrev pub namingBy : ((ℕ → ℕ) → ℕ) → Change
+namingBy pick img d c y = cond (is Wait (y .told)) (tells (wait (pick (startsFor d (sessionOf c)))) d) y
+
+abbrev pub names : ((ℕ → ℕ) → ℕ) → Rules
+names pick = past 6 (namingBy pick)
+
+-- the lowest session in the way, as before the request
+abbrev pub lowestReader : (ℕ → ℕ) → ℕ
+lowestReader f = lowest 16 (λ t. not (eqb (f t) 0))
+
+-- the smallest start, but the last among equals
+abbrev pub lastReader : (ℕ → ℕ) → ℕ
+lastReader f = 15 - oldestOf (λ t. f (15 - t)) 16 .place
+
+-- the largest start below the end
+abbrev pub newestReader : (ℕ → ℕ) → ℕ
+newestReader f = lowest 16 (λ t. allBelow 16 (λ u. leb (f u) (f t)))
+
 -- ---- the claim
 
 pub record Impostors : Type 0 where
@@ -239,3 +266,7 @@ pub record Impostors : Type 0 where
   pub clears-early : Demand3 clearsEarly → ⊥
   pub waits-for-all : Demand2 waitsForAll → ⊥
   pub shows-sealed : Demand2 showsSealed → ⊥
+  -- the reader that settle names
+  pub names-lowest : Demand2 (names lowestReader) → ⊥
+  pub names-last : Demand2 (names lastReader) → ⊥
+  pub names-newest : Demand2 (names newestReader) → ⊥

@@ -6,8 +6,8 @@ use borrow.Author.Tests.{lt-ltb, le-ltb, eq-eqb, ne-eqb}
 use Rattle.layout.proofs.ChecksLaws.{answered-zero, answered-not}
 use Rattle.layout.specs.Entries.{Entry, store, fence}
 use Rattle.layout.specs.Image.{placeOf, slotAt}
-use Rattle.journal.specs.declared.scan.Oldest.{Oldest}
-use Rattle.journal.proofs.Least.{oldest-is}
+use Rattle.layout.specs.declared.oldest.Oldest.{Oldest}
+use Rattle.layout.proofs.Least.{oldest-is}
 use Rattle.desk.specs.declared.state.Desk.{Desk}
 use Rattle.desk.specs.Entering.{imageFault}
 use Rattle.layout.specs.Checks.{roomFor}
@@ -32,35 +32,35 @@ module _ (img : List ℕ) (d : Desk) (len s : ℕ) where
 
   module _ (z : imageFault img d (roomFor len) s ≡ 0) (own : Oldest) (a : own ≡ chosen img d s) where
     -- no slot left
-    pub reclaim-none : own .persist ≡ 0 → Reclaims img d len s (record { answer = None; entries = 0; desk = d }) []
+    pub reclaim-none : own .number ≡ 0 → Reclaims img d len s (record { answer = None; entries = 0; desk = d }) []
     unfolding reclaimReply reclaimEntries reclaimFault
     reclaim-none e =
         record {
-          replies = answered-zero _ (reclaimRefused d) _ z ∙ rw (← a, eq-eqb (own .persist) 0 e);
-          lists = answered-zero _ (λ _. []) _ z ∙ rw (← a, eq-eqb (own .persist) 0 e);
+          replies = answered-zero _ (reclaimRefused d) _ z ∙ rw (← a, eq-eqb (own .number) 0 e);
+          lists = answered-zero _ (λ _. []) _ z ∙ rw (← a, eq-eqb (own .number) 0 e);
         }
 
-    module _ (n : own .persist ≡ 0 → ⊥) where
+    module _ (n : own .number ≡ 0 → ⊥) where
       -- the slot that is taken is one of the session's two
       pub own-slot : own .place < 2
-      own-slot = rw a (oldest-is (settledNumber img d s) 2 .some (λ e. n (ap (λ (b : Oldest). b .persist) a ∙ e)) .0)
+      own-slot = rw a (oldest-is (settledNumber img d s) 2 .some (λ e. n (ap (λ (b : Oldest). b .number) a ∙ e)) .0)
 
       module _ (oldest : Oldest) (b : oldest ≡ oldestLog img d) where
         -- a slot has a smaller number
-        pub reclaim-held : oldest .persist < own .persist → Reclaims img d len s (record { answer = Held (oldest .persist); entries = 0; desk = d }) []
+        pub reclaim-held : oldest .number < own .number → Reclaims img d len s (record { answer = Held (oldest .number); entries = 0; desk = d }) []
         unfolding reclaimReply reclaimEntries reclaimFault
         reclaim-held l =
             record {
-              replies = answered-zero _ (reclaimRefused d) _ z ∙ rw (← a, ← b, ne-eqb (own .persist) 0 n, lt-ltb _ _ l);
-              lists = answered-zero _ (λ _. []) _ z ∙ rw (← a, ← b, ne-eqb (own .persist) 0 n, lt-ltb _ _ l);
+              replies = answered-zero _ (reclaimRefused d) _ z ∙ rw (← a, ← b, ne-eqb (own .number) 0 n, lt-ltb _ _ l);
+              lists = answered-zero _ (λ _. []) _ z ∙ rw (← a, ← b, ne-eqb (own .number) 0 n, lt-ltb _ _ l);
             }
 
         -- the slot is emptied
-        pub reclaim-clears : own .persist ≤ oldest .persist
-            → Reclaims img d len s (record { answer = Cleared (own .persist); entries = 2; desk = d }) (store (slotAt (d .n) (placeOf s (own .place))) 0 ∷ fence ∷ [])
+        pub reclaim-clears : own .number ≤ oldest .number
+            → Reclaims img d len s (record { answer = Cleared (own .number); entries = 2; desk = d }) (store (slotAt (d .n) (placeOf s (own .place))) 0 ∷ fence ∷ [])
         unfolding reclaimReply reclaimEntries reclaimFault
         reclaim-clears l =
             record {
-              replies = answered-zero _ (reclaimRefused d) _ z ∙ rw (← a, ← b, ne-eqb (own .persist) 0 n, le-ltb _ _ l);
-              lists = answered-zero _ (λ _. []) _ z ∙ rw (← a, ← b, ne-eqb (own .persist) 0 n, le-ltb _ _ l);
+              replies = answered-zero _ (reclaimRefused d) _ z ∙ rw (← a, ← b, ne-eqb (own .number) 0 n, le-ltb _ _ l);
+              lists = answered-zero _ (λ _. []) _ z ∙ rw (← a, ← b, ne-eqb (own .number) 0 n, le-ltb _ _ l);
             }

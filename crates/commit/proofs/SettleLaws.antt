@@ -1,19 +1,19 @@
 -- Settle, case by case.
 use Prim.Native.Nat.{ℕ, _+_, _*_, _<_}
-use mathlib.Core.Bool.{Bool, true, false}
+use mathlib.Core.Bool.{true, false}
 use mathlib.Core.Path.{_≡_, sym, ap, _∙_}
 use mathlib.Core.List.{List, []}
-use borrow.Author.Tests.{lt-ltb}
-use Rattle.layout.specs.Below.{lowest}
-use Rattle.layout.proofs.BelowLaws.{lowest-finds}
+use borrow.Author.Tests.{eq-eqb, ne-eqb}
 use Rattle.layout.specs.Checks.{answered}
 use Rattle.layout.proofs.ChecksLaws.{answered-refused, answered-passed}
 use Rattle.layout.specs.Entries.{Entry}
+use Rattle.layout.specs.Oldest.{oldestOf}
+use Rattle.layout.specs.declared.oldest.Oldest.{Oldest}
 use Rattle.desk.specs.Desk.{sessionAt, isPublished, dropped}
 use Rattle.desk.specs.declared.state.Desk.{Desk}
 use Rattle.desk.specs.Entering.{imageFault}
 use Rattle.layout.specs.Checks.{roomFor}
-use Rattle.commit.specs.Settle.{settleFault, endOf, startsBelow, waitsFor, goHomeEntries, settleEntries, settleRefused, settleReply}
+use Rattle.commit.specs.Settle.{settleFault, endOf, startBelow, oldestReader, goHomeEntries, settleEntries, settleRefused, settleReply}
 use Rattle.commit.specs.declared.settling.SettleAnswer.the-variants.{Wait, Ok}
 use Rattle.commit.specs.declared.settling.SettleReply.{SettleReply}
 use Rattle.commit.proofs.Lists.{settle-length}
@@ -23,9 +23,9 @@ pub record Settles (img : List ℕ) (d : Desk) (len s : ℕ) (reply : SettleRepl
   pub replies : settleReply img d len s ≡ reply
   pub lists : settleEntries img d len s ≡ entries
 
--- session t is active with a start below this end
-abbrev pub waitsAt : Desk → ℕ → ℕ → Bool
-waitsAt d end t = startsBelow end (sessionAt d t .phase)
+-- the start of session t, if it is active with a start below this end
+abbrev pub startAt : Desk → ℕ → ℕ → ℕ
+startAt d end t = startBelow end (sessionAt d t .phase)
 
 module _ (img : List ℕ) (d : Desk) (len s : ℕ) where
   -- refused by 1 to 4
@@ -47,25 +47,27 @@ module _ (img : List ℕ) (d : Desk) (len s : ℕ) where
           lists = answered-passed _ _ (λ _. []) _ z ∙ rw f;
         }
 
-    module _ (a : isPublished (sessionAt d s .phase) ≡ true) (end : ℕ) (e : end ≡ endOf (sessionAt d s .phase)) where
+    module _ (a : isPublished (sessionAt d s .phase) ≡ true) (end : ℕ) (e : end ≡ endOf (sessionAt d s .phase))
+        (reader : Oldest) (o : reader ≡ oldestOf (startAt d end) 16) where
+      is-reader : oldestReader d s ≡ reader
+      unfolding oldestReader
+      is-reader = sym (rw e at o)
+
       -- an active session has a start below the end
-      pub settle-waits : (t : ℕ) → t < 16 → lowest t (waitsAt d end) ≡ t → waitsAt d end t ≡ true
-          → Settles img d len s (record { answer = Wait t; entries = 0; desk = d }) []
-      unfolding settleReply settleEntries settleFault answered waitsFor
-      settle-waits t l h w =
-          let q : waitsFor d (endOf (sessionAt d s .phase)) ≡ t = rw e at (lowest-finds (waitsAt d end) 16 t l h w) in
+      pub settle-waits : (reader .number ≡ 0 → ⊥) → Settles img d len s (record { answer = Wait (reader .place); entries = 0; desk = d }) []
+      unfolding settleReply settleEntries settleFault answered
+      settle-waits n =
           record {
-            replies = answered-passed _ _ (settleRefused d) _ z ∙ rw (a, q, lt-ltb t 16 l);
-            lists = answered-passed _ _ (λ _. []) _ z ∙ rw (a, q, lt-ltb t 16 l);
+            replies = answered-passed _ _ (settleRefused d) _ z ∙ rw (a, is-reader, ne-eqb (reader .number) 0 n);
+            lists = answered-passed _ _ (λ _. []) _ z ∙ rw (a, is-reader, ne-eqb (reader .number) 0 n);
           }
 
       -- the copies go home
-      pub settle-stores : lowest 16 (waitsAt d end) ≡ 16
+      pub settle-stores : reader .number ≡ 0
           → Settles img d len s (record { answer = Ok; entries = 4 * sessionAt d s .count + 1; desk = dropped d s }) (goHomeEntries d s)
-      unfolding settleReply settleEntries settleFault answered waitsFor
-      settle-stores h =
-          let q : waitsFor d (endOf (sessionAt d s .phase)) ≡ 16 = rw e at h in
+      unfolding settleReply settleEntries settleFault answered
+      settle-stores n =
           record {
-            replies = answered-passed _ _ (settleRefused d) _ z ∙ rw (a, q, settle-length d s);
-            lists = answered-passed _ _ (λ _. []) _ z ∙ rw (a, q);
+            replies = answered-passed _ _ (settleRefused d) _ z ∙ rw (a, is-reader, eq-eqb (reader .number) 0 n, settle-length d s);
+            lists = answered-passed _ _ (λ _. []) _ z ∙ rw (a, is-reader, eq-eqb (reader .number) 0 n);
           }

@@ -10,8 +10,8 @@ use lib.Dec.{ltb, eqb}
 use Rattle.layout.specs.Checks.{answered}
 use Rattle.layout.specs.Entries.{Entry, store, fence}
 use Rattle.layout.specs.Image.{placeOf, slotAt, persistAt}
-use Rattle.journal.specs.Oldest.{oldestOf}
-use Rattle.journal.specs.declared.scan.Oldest.{Oldest}
+use Rattle.layout.specs.Oldest.{oldestOf}
+use Rattle.layout.specs.declared.oldest.Oldest.{Oldest}
 use Rattle.desk.specs.Desk.{sessionAt, isSealed, isPublished}
 use Rattle.desk.specs.declared.state.Session.{Session}
 use Rattle.desk.specs.declared.state.Desk.{Desk}
@@ -42,11 +42,11 @@ oldestLog img d = oldestOf (persistAt img (d .n)) (2 * d .m)
 
 -- no slot left
 abbrev pub noneLeft : List ℕ → Desk → ℕ → Bool
-noneLeft img d s = eqb (chosen img d s .persist) 0
+noneLeft img d s = eqb (chosen img d s .number) 0
 
 -- some slot of the image has a smaller non-zero number
 abbrev pub heldB : List ℕ → Desk → ℕ → Bool
-heldB img d s = ltb (oldestLog img d .persist) (chosen img d s .persist)
+heldB img d s = ltb (oldestLog img d .number) (chosen img d s .number)
 
 abbrev pub clearEntries : List ℕ → Desk → ℕ → List Entry
 clearEntries img d s = store (slotAt (d .n) (placeOf s (chosen img d s .place))) 0 ∷ fence ∷ []
@@ -63,8 +63,8 @@ reclaimDone img d s =
     cond (noneLeft img d s)
     (record { answer = None; entries = 0; desk = d })
     (cond (heldB img d s)
-    (record { answer = Held (oldestLog img d .persist); entries = 0; desk = d })
-    (record { answer = Cleared (chosen img d s .persist); entries = length (clearEntries img d s); desk = d }))
+    (record { answer = Held (oldestLog img d .number); entries = 0; desk = d })
+    (record { answer = Cleared (chosen img d s .number); entries = length (clearEntries img d s); desk = d }))
 
 unfoldable pub reclaimReply : List ℕ → Desk → ℕ → ℕ → ReclaimReply
 reclaimReply img d len s = answered (reclaimFault img d len s) (reclaimRefused d) (reclaimDone img d s)
@@ -74,4 +74,4 @@ unfoldable pub reclaimSaid : List ℕ → Desk → ℕ → ℕ → Told
 reclaimSaid img d len s =
     answered (reclaimFault img d len s) refusal
     (cond (noneLeft img d s) nothing
-    (cond (heldB img d s) (held (oldestLog img d .persist)) (cleared (chosen img d s .persist))))
+    (cond (heldB img d s) (held (oldestLog img d .number)) (cleared (chosen img d s .number))))

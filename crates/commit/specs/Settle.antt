@@ -1,15 +1,16 @@
--- Settle (document 01): published only. If an active session has a start below this end, the answer is "wait" with the lowest such session,
--- no stores. Otherwise the copies go home and a fence follows: 4c + 1 entries. Marks and copies are dropped; the session is idle; the slot
--- stays occupied. Checks 1, 2, 3, 4, 6.
+-- Settle (document 01, and document 02's Req 01): published only. If an active session has a start below this end, the answer is "wait" with
+-- the one that has the smallest start, and among equal starts the lowest session; no stores. Otherwise the copies go home and a fence
+-- follows: 4c + 1 entries. Marks and copies are dropped; the session is idle; the slot stays occupied. Checks 1, 2, 3, 4, 6.
 use Prim.Native.Nat.{ℕ}
-use mathlib.Core.Bool.{Bool, false, cond}
+use mathlib.Core.Bool.{Bool, not, cond}
 use mathlib.Core.List.{List, [], _∷_, _++_}
 use lib.ListN.{length}
-use lib.Dec.{ltb}
-use Rattle.layout.specs.Below.{lowest}
+use lib.Dec.{eqb, ltb}
 use Rattle.layout.specs.Checks.{unless, first, answered}
 use Rattle.layout.specs.Entries.{Entry, fence, stores}
 use Rattle.layout.specs.Homes.{homesWrites}
+use Rattle.layout.specs.Oldest.{oldestOf}
+use Rattle.layout.specs.declared.oldest.Oldest.{Oldest}
 use Rattle.desk.specs.Desk.{copiedRec, copiedWords, sessionAt, isPublished, dropped}
 use Rattle.desk.specs.declared.state.Phase.{Phase}
 use Rattle.desk.specs.declared.state.Phase.the-variants.{Idle, Active, Sealed, Published}
@@ -30,16 +31,17 @@ endOf (Active b) = 0
 endOf (Sealed p) = 0
 endOf (Published e) = e
 
--- active, with a start below this end
-abbrev pub startsBelow : ℕ → Phase → Bool
-startsBelow end Idle = false
-startsBelow end (Active b) = ltb b end
-startsBelow end (Sealed p) = false
-startsBelow end (Published e) = false
+-- the start of an active session, if it is below this end; 0 for a session that is not in the way, since a start is at least 1
+abbrev pub startBelow : ℕ → Phase → ℕ
+startBelow end Idle = 0
+startBelow end (Active b) = cond (ltb b end) b 0
+startBelow end (Sealed p) = 0
+startBelow end (Published e) = 0
 
--- the lowest session that settle waits for; 16 where there is none
-unfoldable pub waitsFor : Desk → ℕ → ℕ
-waitsFor d end = lowest 16 (λ t. startsBelow end (sessionAt d t .phase))
+-- the reader that settle waits for: of the sessions in the way the one with the smallest start, among equal starts the lowest; its start as
+-- number, 0 where no session is in the way, and the session as place
+unfoldable pub oldestReader : Desk → ℕ → Oldest
+oldestReader d s = oldestOf (λ t. startBelow (endOf (sessionAt d s .phase)) (sessionAt d t .phase)) 16
 
 -- the copies go home, and a fence
 abbrev pub goHomeEntries : Desk → ℕ → List Entry
@@ -47,7 +49,7 @@ goHomeEntries d s =
     stores (homesWrites (copiedRec (sessionAt d s)) (copiedWords (sessionAt d s)) (sessionAt d s .count)) ++ (fence ∷ [])
 
 abbrev pub waitsB : Desk → ℕ → Bool
-waitsB d s = ltb (waitsFor d (endOf (sessionAt d s .phase))) 16
+waitsB d s = not (eqb (oldestReader d s .number) 0)
 
 unfoldable pub settleEntries : List ℕ → Desk → ℕ → ℕ → List Entry
 settleEntries img d len s = answered (settleFault img d len s) (λ k. []) (cond (waitsB d s) [] (goHomeEntries d s))
@@ -58,7 +60,7 @@ settleRefused d k = record { answer = Refused k; entries = 0; desk = d }
 abbrev pub settleDone : Desk → ℕ → SettleReply
 settleDone d s =
     cond (waitsB d s)
-    (record { answer = Wait (waitsFor d (endOf (sessionAt d s .phase))); entries = 0; desk = d })
+    (record { answer = Wait (oldestReader d s .place); entries = 0; desk = d })
     (record { answer = Ok; entries = length (goHomeEntries d s); desk = dropped d s })
 
 unfoldable pub settleReply : List ℕ → Desk → ℕ → ℕ → SettleReply
@@ -67,4 +69,4 @@ settleReply img d len s = answered (settleFault img d len s) (settleRefused d) (
 -- what it tells: the session that it waits for, or ok
 unfoldable pub settleSaid : List ℕ → Desk → ℕ → ℕ → Told
 settleSaid img d len s =
-    answered (settleFault img d len s) refusal (cond (waitsB d s) (wait (waitsFor d (endOf (sessionAt d s .phase)))) ok)
+    answered (settleFault img d len s) refusal (cond (waitsB d s) (wait (oldestReader d s .place)) ok)

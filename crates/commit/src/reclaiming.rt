@@ -5,7 +5,7 @@ ghost use Prim.Native.Nat.{_≤_, _<_};
 ghost use lib.ListN.{length};
 ghost use Rattle.layout.specs.Entries.{made, listed};
 ghost use Rattle.layout.specs.Image.{placeOf, persistAt};
-ghost use Rattle.journal.specs.Oldest.{oldestOf};
+ghost use Rattle.layout.specs.Oldest.{oldestOf};
 ghost use Rattle.commit.specs.Reclaim.{inUse, reclaimEntries, reclaimReply, reclaimSaid};
 ghost use Rattle.commit.specs.Told.{reclaimTold};
 use desk::Desk;
@@ -14,7 +14,8 @@ use desk::coherent;
 use desk::entry_fault;
 use desk::is_published;
 use desk::is_sealed;
-use journal::Oldest;
+use layout::Oldest;
+use layout::older;
 
 pub enum ReclaimAnswer {
     Refused(u64),
@@ -47,11 +48,11 @@ fn older_slot(image: &[u64], n: u64, session: u64, e: Session) -> Oldest
     ensures { λ r. ⌜ r ≡ oldestOf (λ q. cond (inUse e q) 0 (persistAt (now (image .entry)) n (placeOf session q))) 2 ⌝ }
 {
     let none = Oldest {
-        persist: 0,
+        number: 0,
         place: 0,
     };
-    let low = journal::older(none, settled_number(image, n, session, e, 0), 0);
-    journal::older(low, settled_number(image, n, session, e, 1), 1)
+    let low = older(none, settled_number(image, n, session, e, 0), 0);
+    older(low, settled_number(image, n, session, e, 1), 1)
 }
 
 fn answers(desk: Desk, answer: ReclaimAnswer, entries: u64) -> ReclaimReply
@@ -83,15 +84,15 @@ pub fn reclaim(image: &mut [u64], desk: Desk, trace: &mut [u64], session: u64) -
     let i = session as usize;
     let e = desk.sessions[i];
     let own = older_slot(image, n, session, e);
-    if own.persist == 0 {
+    if own.number == 0 {
         return answers(desk, ReclaimAnswer::None, 0);
     }
     let oldest = journal::oldest_log(image, n, 2 * m);
-    if oldest.persist < own.persist {
-        return answers(desk, ReclaimAnswer::Held(oldest.persist), 0);
+    if oldest.number < own.number {
+        return answers(desk, ReclaimAnswer::Held(oldest.number), 0);
     }
     let slot = layout::slot_at(n, 2 * session + own.place) as usize;
     let at = layout::put_store(image, 0, trace, 0, slot, 0);
     layout::put_fence(trace, at);
-    answers(desk, ReclaimAnswer::Cleared(own.persist), 2)
+    answers(desk, ReclaimAnswer::Cleared(own.number), 2)
 }

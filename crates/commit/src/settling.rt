@@ -2,7 +2,7 @@
 ghost use mathlib.Core.Path.{_≡_};
 ghost use lib.ListN.{length};
 ghost use Rattle.layout.specs.Entries.{made, listed};
-ghost use Rattle.commit.specs.Settle.{endOf, startsBelow, settleEntries, settleReply, settleSaid};
+ghost use Rattle.commit.specs.Settle.{endOf, startBelow, settleEntries, settleReply, settleSaid};
 ghost use Rattle.commit.specs.Told.{settleTold};
 use desk::Desk;
 use desk::Phase;
@@ -11,6 +11,8 @@ use desk::entry_fault;
 use desk::idle_session;
 use desk::is_published;
 use desk::unmark;
+use layout::Oldest;
+use layout::older;
 
 pub enum SettleAnswer {
     Refused(u64),
@@ -36,15 +38,20 @@ fn end_of(p: Phase) -> u64
     }
 }
 
-// Whether a session is active with a start below this end.
-fn starts_below(end: u64, p: Phase) -> bool
-    ensures { λ r. ⌜ r ≡ startsBelow end p ⌝ }
+// The start of an active session, if it is below this end; 0 for any other session.
+fn start_below(end: u64, p: Phase) -> u64
+    ensures { λ r. ⌜ r ≡ startBelow end p ⌝ }
 {
     match p {
-        Phase::Idle => false,
-        Phase::Active(start) => start < end,
-        Phase::Sealed(_) => false,
-        Phase::Published(_) => false,
+        Phase::Idle => 0,
+        Phase::Active(start) => {
+            if start < end {
+                return start;
+            }
+            0
+        }
+        Phase::Sealed(_) => 0,
+        Phase::Published(_) => 0,
     }
 }
 
@@ -81,14 +88,19 @@ pub fn settle(image: &mut [u64], mut desk: Desk, trace: &mut [u64], session: u64
         return answers(desk, SettleAnswer::Refused(6), 0);
     }
     let end = end_of(p);
+    let mut reader = Oldest {
+        number: 0,
+        place: 0,
+    };
     let mut t: usize = 0;
     while t < 16 {
         let other = desk.sessions[t];
         let q = other.phase;
-        if starts_below(end, q) {
-            return answers(desk, SettleAnswer::Wait(t as u64), 0);
-        }
+        reader = older(reader, start_below(end, q), t as u64);
         t += 1;
+    }
+    if reader.number != 0 {
+        return answers(desk, SettleAnswer::Wait(reader.place), 0);
     }
     let count = e.count;
     let copies = e.copies;

@@ -1,12 +1,17 @@
 -- Settle keeps the invariant.
-use Prim.Native.Nat.{ℕ, _*_, _≤_, _<_}
-use mathlib.Core.Path.{_≡_, refl, _∙_}
-use mathlib.Core.Bool.{not}
+use Prim.Native.Nat.{ℕ, zero, suc, _*_, _≤_, _<_}
+use mathlib.Core.Path.{_≡_, refl, sym, _∙_}
+use mathlib.Core.Bool.{not, false}
 use mathlib.Core.Option.{Option, none, some}
 use mathlib.Core.List.{List}
+use native.Mathlib.Decide.{ℕ-discrete}
+use native.Mathlib.Nat.{le-refl}
 use native.Mathlib.Omega.{arith}
 use lib.ListN.{length}
-use lib.Dec.{T, nltb→le}
+use lib.Dec.{T, T-not, nltb→le}
+use borrow.Author.Tests.{lt-ltb, le-ltb}
+use Rattle.layout.specs.Below.{anyBelow}
+use Rattle.layout.proofs.Says.{says-any, says-itself, says-not}
 use Rattle.layout.specs.Crash.{crashed as cut}
 use Rattle.layout.specs.Entries.{made}
 use Rattle.layout.specs.Image.{slotAt}
@@ -14,7 +19,7 @@ use Rattle.layout.specs.Told.{wait}
 use Rattle.history.specs.Log.{In}
 use Rattle.history.specs.Layout.{view}
 use Rattle.history.specs.Call.{settle}
-use Rattle.history.specs.Desk.{Copy, writes, Session, idle, active, sealed, published, Desk, firstOf, inTheWay}
+use Rattle.history.specs.Desk.{Copy, writes, Session, idle, active, sealed, published, Desk, inTheWay, beganFirst, awaited}
 use Rattle.history.specs.Due.{settleStores, waits, settles, dueOf}
 use Rattle.history.specs.History.{History}
 use Rattle.history.proofs.Copies.{in-word, Lowest, firstOf?}
@@ -44,6 +49,34 @@ module _ (N M : ℕ) (img : List ℕ) (d : Desk) (h : History) (H : Holds N M im
         hm : Homing N (2 * M) (view N img) (view N img′) (writes cs)
         hm = settle-homing N M img cs img′ (logged .lawful .below) so
 
+    -- where no session is awaited, none is active with a start below e: one with a start of b, and none before it, would be awaited
+    module _ (g : (t : ℕ) → t < M → T (not (beganFirst M d e (d .session t)))) where
+      none-at : (b : ℕ) → b < e → ((t : ℕ) → t < M → T (not (inTheWay b (d .session t)))) → (t : ℕ) → t < M → T (not (inTheWay (suc b) (d .session t)))
+      none-at b l before t lt = go (d .session t) (g t lt) (before t lt)
+        where
+          alone : anyBelow M (λ u. inTheWay b (d .session u)) ≡ false
+          alone = says-not (says-any M (λ u. says-itself (inTheWay b (d .session u)))) (λ k. T-not (inTheWay b (d .session (k .0))) (before (k .0) (k .1)) (rw (k .2) tt))
+
+          go : (x : Session) → T (not (beganFirst M d e x)) → T (not (inTheWay b x)) → T (not (inTheWay (suc b) x))
+          go idle n k = tt
+          go (active c p ds) n k = at (ℕ-discrete c b)
+            where
+              at : Dec (c ≡ b) → T (not (inTheWay (suc b) (active c p ds)))
+              at (yes x) = absurd (rw (x, lt-ltb b e l, alone) at n)
+              at (no x) = rw (le-ltb c (suc b) (omega (arith, nltb→le c b k))) tt
+          go (sealed n p ds) m k = tt
+          go (published f p ds) n k = tt
+
+      none-below : (b : ℕ) → b ≤ e → (t : ℕ) → t < M → T (not (inTheWay b (d .session t)))
+      none-below zero l t lt = go (d .session t)
+        where
+          go : (x : Session) → T (not (inTheWay 0 x))
+          go idle = tt
+          go (active c p ds) = rw (le-ltb c 0 (omega arith)) tt
+          go (sealed n p ds) = tt
+          go (published f p ds) = tt
+      none-below (suc b) l t lt = none-at b (omega arith) (none-below b (omega arith)) t lt
+
     late : ((t : ℕ) → t < M → T (not (inTheWay e (d .session t)))) → (σ u : ℕ) → u < M → Starts σ (d .session u) → e ≤ σ
     late g σ u lu st = go (d .session u) (g u lu) st
       where
@@ -53,7 +86,7 @@ module _ (N M : ℕ) (img : List ℕ) (d : Desk) (h : History) (H : Holds N M im
         go (sealed n p ds) t k = absurd k
         go (published f p ds) t k = absurd k
 
-    settle-waits : (o : Option ℕ) → Lowest (λ t. inTheWay e (d .session t)) M o → Done N M img d h (settle len s) (waits cs o)
+    settle-waits : (o : Option ℕ) → Lowest (λ t. beganFirst M d e (d .session t)) M o → Done N M img d h (settle len s) (waits cs o)
     settle-waits (some t) g = same N M img d h H (settle len s) (wait t) (λ _. refl) refl refl (λ _. refl)
     settle-waits none g = record {
       kept = record {
@@ -62,7 +95,7 @@ module _ (N M : ℕ) (img : List ℕ) (d : Desk) (h : History) (H : Holds N M im
         inv = settling N M (view N img) (view N (made (settleStores cs) img)) d h s e q cs (H .inv) l is
             (settle-homing N M img cs (made (settleStores cs) img) (logged .lawful .below) (made-some (writes cs) img))
             (made-all (writes cs) img (writes-functional cs (logged .lawful .distinct)) homes-in)
-            (late g);
+            (late (none-below g e (le-refl e)));
       };
       later = record { clock = omega arith; views = λ σ r k. refl };
       low = λ j lj. settle-low N M img cs (made (settleStores cs) img) (logged .lawful .below) (made-some (writes cs) img) j lj;
@@ -78,7 +111,7 @@ module _ (N M : ℕ) (img : List ℕ) (d : Desk) (h : History) (H : Holds N M im
   settle-at l idle e = refusing N M img d h H (settle len s) 6 refl
   settle-at l (active b q cs) e = refusing N M img d h H (settle len s) 6 refl
   settle-at l (sealed n q cs) e = refusing N M img d h H (settle len s) 6 refl
-  settle-at l (published f q cs) e = settle-waits l f q cs e (firstOf (λ t. inTheWay f (d .session t)) M) (firstOf? (λ t. inTheWay f (d .session t)) M)
+  settle-at l (published f q cs) e = settle-waits l f q cs e (awaited M d f) (firstOf? (λ t. beganFirst M d f (d .session t)) M)
 
   pub settle-done : Done N M img d h (settle len s) (dueOf N M (view N img .number) d h (settle len s))
   settle-done =

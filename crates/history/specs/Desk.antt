@@ -1,10 +1,11 @@
 -- The desk, as the claims see it: the clock, and for each session what it is doing. The holder of a record is the session that copies it.
 use Prim.Native.Nat.{ℕ, zero, suc, _+_, _*_}
-use mathlib.Core.Bool.{Bool, true, false, cond}
+use mathlib.Core.Bool.{Bool, true, false, cond, not, _&&_}
 use mathlib.Core.Option.{Option, none, some}
 use mathlib.Core.List.{List, [], _∷_}
 use lib.ListN.{length, getD}
 use lib.Dec.{eqb, ltb}
+use Rattle.layout.specs.Below.{anyBelow}
 use Rattle.layout.specs.Entries.{Write}
 use Rattle.layout.specs.Homes.{homesWrites}
 
@@ -83,3 +84,14 @@ inTheWay e idle = false
 inTheWay e (active b q cs) = ltb b e
 inTheWay e (sealed n q cs) = false
 inTheWay e (published f q cs) = false
+
+-- the session is active with a start below e, and no session has a smaller start
+abbrev pub beganFirst : ℕ → Desk → ℕ → Session → Bool
+beganFirst M d e idle = false
+beganFirst M d e (active b q cs) = ltb b e && not (anyBelow M (λ t. inTheWay b (d .session t)))
+beganFirst M d e (sealed n q cs) = false
+beganFirst M d e (published f q cs) = false
+
+-- the session that an end e waits for: the lowest of those
+abbrev pub awaited : ℕ → Desk → ℕ → Option ℕ
+awaited M d e = firstOf (λ t. beganFirst M d e (d .session t)) M

@@ -12,7 +12,7 @@ use Rattle.layout.specs.Told.{Told, refused, refusal, ok, start, own, copied, h
 use Rattle.desk.specs.Coherent.{limit}
 use Rattle.journal.specs.Log.{logEntries}
 use Rattle.history.specs.Call.{Call, begin, read, write, abandon, finish, publish, settle, reclaim}
-use Rattle.history.specs.Desk.{Copy, find, recAt, wordsAt, writes, Session, idle, active, sealed, published, Desk, holder, firstOf, inTheWay}
+use Rattle.history.specs.Desk.{Copy, find, recAt, wordsAt, writes, Session, idle, active, sealed, published, Desk, holder, awaited}
 use Rattle.history.specs.History.{History, viewAt}
 use Rattle.history.specs.Ledger.{Ledger, candidate}
 
@@ -118,7 +118,8 @@ publishes clock (active b q cs) = refuse 6
 publishes clock (sealed n q cs) = say (endedAt (suc clock))
 publishes clock (published e q cs) = refuse 6
 
--- wait with the lowest session in the way; otherwise the copies go home and a fence follows
+-- wait with the active session that has the smallest start below the end, among equal starts the lowest; otherwise the copies go home and a
+-- fence follows
 abbrev pub settleStores : List Copy → List Entry
 settleStores cs = stores (writes cs) ++ fence ∷ []
 
@@ -130,7 +131,7 @@ abbrev pub settles : ℕ → Desk → Session → Due
 settles M d idle = refuse 6
 settles M d (active b q cs) = refuse 6
 settles M d (sealed n q cs) = refuse 6
-settles M d (published e q cs) = waits cs (firstOf (λ t. inTheWay e (d .session t)) M)
+settles M d (published e q cs) = waits cs (awaited M d e)
 
 -- the smallest persist number of the first k slots, 0 where all are empty
 abbrev pub lesser : ℕ → ℕ → ℕ

@@ -11,7 +11,5 @@ pub use logs::unsound;
 pub use replay::log_copies;
 pub use replay::log_count;
 pub use replay::put_homes;
-pub use scan::Oldest;
 pub use scan::occupied;
-pub use scan::older;
 pub use scan::oldest_log;

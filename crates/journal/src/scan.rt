@@ -3,36 +3,10 @@
 ghost use mathlib.Core.Path.{_≡_};
 ghost use Prim.Native.Nat.{_≤_, _<_};
 ghost use Rattle.layout.specs.Image.{persistAt, occupiedB};
-ghost use Rattle.journal.specs.Oldest.{older as olderOf, oldestOf};
+ghost use Rattle.layout.specs.Oldest.{oldestOf};
+use layout::Oldest;
+use layout::older;
 use layout::slot_word;
-
-// The oldest log of some slots: its persist number, 0 where no slot is occupied, and its place.
-pub struct Oldest {
-    pub persist: u64,
-    pub place: u64,
-}
-
-// The oldest log so far, or the slot at a place if it is occupied and older.
-pub fn older(best: Oldest, persist: u64, place: u64) -> Oldest
-    ensures { λ r. ⌜ r ≡ olderOf best persist place ⌝ }
-{
-    if persist == 0 {
-        return best;
-    }
-    if best.persist == 0 {
-        return Oldest {
-            persist: persist,
-            place: place,
-        };
-    }
-    if persist < best.persist {
-        return Oldest {
-            persist: persist,
-            place: place,
-        };
-    }
-    best
-}
 
 // The oldest log of the first `slots` slots.
 pub fn oldest_log(image: &[u64], n: u64, slots: u64) -> Oldest
@@ -40,7 +14,7 @@ pub fn oldest_log(image: &[u64], n: u64, slots: u64) -> Oldest
     ensures { λ r. ⌜ r ≡ oldestOf (persistAt (now (image .entry)) n) slots ⌝ }
 {
     let mut best = Oldest {
-        persist: 0,
+        number: 0,
         place: 0,
     };
     let mut i: u64 = 0;

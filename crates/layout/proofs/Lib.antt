@@ -2,6 +2,7 @@ pub mod BelowLaws
 pub mod ChecksLaws
 pub mod ToldLaws
 pub mod Says
+pub mod Least
 pub mod Shape
 pub mod Groups
 pub mod TraceLaws

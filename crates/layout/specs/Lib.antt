@@ -1,4 +1,5 @@
 pub mod Below
+pub mod Oldest
 pub mod Checks
 pub mod Image
 pub mod Entries

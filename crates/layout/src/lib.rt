@@ -1,8 +1,9 @@
 // The image: where its parts lie, reading and laying it, and storing to it with a trace (document 01's strip) of every store.
-// `lay` is a call that users make. `index` and `trace` are for the crates above alone: their functions say what they need.
+// `lay` is a call that users make. `index`, `oldest` and `trace` are for the crates above alone: their functions say what they need.
 mod image;
 mod index;
 mod laying;
+mod oldest;
 mod trace;
 
 pub use image::shaped;
@@ -12,6 +13,8 @@ pub use index::slot_at;
 pub use index::slot_word;
 pub use laying::LayAnswer;
 pub use laying::lay;
+pub use oldest::Oldest;
+pub use oldest::older;
 pub use trace::put_fence;
 pub use trace::put_home;
 pub use trace::put_store;

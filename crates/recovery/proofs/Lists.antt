@@ -16,7 +16,7 @@ use Rattle.layout.proofs.ChecksLaws.{first-both, unless-zero}
 use Rattle.layout.proofs.TidyLaws.{tidy-none, tidy-cond, tidy-answered, tidy-list}
 use Rattle.layout.proofs.Groups.{homes-distinct, length-homes, length-stores, once-group, ends-append}
 use Rattle.journal.specs.Log.{countOf, recOf, wordsOf, denoted, unsoundB}
-use Rattle.journal.proofs.Least.{oldest-is}
+use Rattle.layout.proofs.Least.{oldest-is}
 use Rattle.journal.proofs.LogFacts.{Sound, sound-of}
 use Rattle.recovery.specs.Recover.{slotsOf, logAt, unsoundPlace, recoverFault, firstLog, cleanB, recoverEntries, replayEntries, recoverRefused, recoverReply}
 use Rattle.recovery.specs.declared.recovering.RecoverReply.{RecoverReply}

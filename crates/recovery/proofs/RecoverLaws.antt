@@ -12,10 +12,10 @@ use Rattle.layout.specs.Entries.{Entry, store, fence, stores}
 use Rattle.layout.specs.Image.{recordsOf, sessionsOf, shapedB, homeAt, slotAt, slotWord, persistAt}
 use Rattle.journal.specs.Log.{Slot, countOf, recOf, wordsOf}
 use Rattle.layout.specs.Homes.{homesWrites}
-use Rattle.journal.specs.Oldest.{oldestOf}
-use Rattle.journal.specs.declared.scan.Oldest.{Oldest}
+use Rattle.layout.specs.Oldest.{oldestOf}
+use Rattle.layout.specs.declared.oldest.Oldest.{Oldest}
 use Rattle.layout.proofs.Groups.{homes-same}
-use Rattle.journal.proofs.Least.{oldest-is}
+use Rattle.layout.proofs.Least.{oldest-is}
 use Rattle.layout.proofs.Says.{by-test}
 use Rattle.layout.proofs.Shape.{Shaped, says-shaped}
 use Rattle.desk.specs.Desk.{noCopy}
@@ -84,25 +84,25 @@ CopiesOf f copies = (j : ℕ) → j < 4 → getD copies j noCopy ≡ record { re
 
 module _ {img : List ℕ} {len n : ℕ} {b : Oldest} (f : Found img len n b) where
   -- the image is clean
-  pub recover-clean : b .persist ≡ 0 → Recovers img len (record { answer = Clean; entries = 0 }) []
+  pub recover-clean : b .number ≡ 0 → Recovers img len (record { answer = Clean; entries = 0 }) []
   unfolding recoverReply recoverEntries
   recover-clean e =
-      let q : cleanB img ≡ true = eq-eqb _ _ (sym (ap (λ (o : Oldest). o .persist) (f .log)) ∙ e) in
+      let q : cleanB img ≡ true = eq-eqb _ _ (sym (ap (λ (o : Oldest). o .number) (f .log)) ∙ e) in
       record {
         replies = answered-zero _ (recoverRefused img) _ (f .passed) ∙ rw q;
         lists = answered-zero _ (λ _. []) _ (f .passed) ∙ rw q;
       }
 
-  module _ (u : b .persist ≡ 0 → ⊥) where
+  module _ (u : b .number ≡ 0 → ⊥) where
     occupied : cleanB img ≡ false
-    occupied = ne-eqb _ _ (λ y. u (ap (λ (o : Oldest). o .persist) (f .log) ∙ y))
+    occupied = ne-eqb _ _ (λ y. u (ap (λ (o : Oldest). o .number) (f .log) ∙ y))
 
     pub taken : Taken img len n b
     unfolding firstLog
     taken =
         let s = recover-shaped img len (f .passed) in
         let d = taken-sound img len (f .passed) occupied in
-        let p = oldest-is (persistAt img (recordsOf img)) (slotsOf img) .some (λ y. u (ap (λ (o : Oldest). o .persist) (f .log) ∙ y)) in
+        let p = oldest-is (persistAt img (recordsOf img)) (slotsOf img) .some (λ y. u (ap (λ (o : Oldest). o .number) (f .log) ∙ y)) in
         rw (f .log, f .records)
         (record {
           n-high = s .range .n-high;
@@ -116,7 +116,7 @@ module _ {img : List ℕ} {len n : ℕ} {b : Oldest} (f : Found img len n b) whe
     -- the log is replayed
     pub recover-replays : (copies : List RecordCopy) (count slot : ℕ)
         → CopiesOf (slotWord img n (b .place)) copies → count ≡ countOf (slotWord img n (b .place)) → slot ≡ slotAt n (b .place)
-        → Recovers img len (record { answer = Replayed (b .persist); entries = 4 * count + 3 })
+        → Recovers img len (record { answer = Replayed (b .number); entries = 4 * count + 3 })
         (stores (homesWrites (λ j. getD copies j noCopy .rec) (λ j. getD copies j noCopy .words) count) ++ (fence ∷ store slot 0 ∷ fence ∷ []))
     unfolding recoverReply recoverEntries
     recover-replays copies count slot h e i =

@@ -11,8 +11,8 @@ use Rattle.layout.specs.Checks.{unless, first, answered}
 use Rattle.layout.specs.Entries.{Entry, store, fence, stores}
 use Rattle.layout.specs.Image.{recordsOf, sessionsOf, shapedB, slotAt, slotWord, persistAt}
 use Rattle.journal.specs.Log.{Slot, denoted, unsoundB, tiedB}
-use Rattle.journal.specs.Oldest.{oldestOf}
-use Rattle.journal.specs.declared.scan.Oldest.{Oldest}
+use Rattle.layout.specs.Oldest.{oldestOf}
+use Rattle.layout.specs.declared.oldest.Oldest.{Oldest}
 use Rattle.layout.specs.Checks.{roomFor}
 use Rattle.recovery.specs.declared.recovering.RecoverAnswer.the-variants.{Refused, Unsound, Clean, Replayed}
 use Rattle.recovery.specs.declared.recovering.RecoverReply.{RecoverReply}
@@ -46,7 +46,7 @@ unfoldable pub firstLog : List ℕ → Oldest
 firstLog img = oldestOf (persistAt img (recordsOf img)) (slotsOf img)
 
 abbrev pub cleanB : List ℕ → Bool
-cleanB img = eqb (firstLog img .persist) 0
+cleanB img = eqb (firstLog img .number) 0
 
 -- the log at place p is replayed and its slot emptied
 abbrev pub replayEntries : List ℕ → ℕ → List Entry
@@ -63,7 +63,7 @@ abbrev pub recoverDone : List ℕ → RecoverReply
 recoverDone img =
     cond (cleanB img)
     (record { answer = Clean; entries = 0 })
-    (record { answer = Replayed (firstLog img .persist); entries = length (replayEntries img (firstLog img .place)) })
+    (record { answer = Replayed (firstLog img .number); entries = length (replayEntries img (firstLog img .place)) })
 
 unfoldable pub recoverReply : List ℕ → ℕ → RecoverReply
 recoverReply img len = answered (recoverFault img len) (recoverRefused img) (recoverDone img)
@@ -72,4 +72,4 @@ recoverReply img len = answered (recoverFault img len) (recoverRefused img) (rec
 unfoldable pub recoverSaid : List ℕ → ℕ → Told
 recoverSaid img len =
     answered (recoverFault img len) (λ k. cond (eqb k 12) (refused 12 (unsoundPlace img)) (refusal k))
-    (cond (cleanB img) clean (replayed (firstLog img .persist)))
+    (cond (cleanB img) clean (replayed (firstLog img .number)))

@@ -117,7 +117,7 @@ pub fn recover(image: &mut [u64], trace: &mut [u64]) -> RecoverReply
     }
     let n = layout::word(image, 1);
     let oldest = journal::oldest_log(image, n, 2 * layout::word(image, 2));
-    let persist = oldest.persist;
+    let persist = oldest.number;
     let place = oldest.place;
     if persist == 0 {
         return RecoverReply {

@@ -1,4 +1,4 @@
-use Rattle.journal.specs.Oldest.{oldestOf}
+use Rattle.layout.specs.Oldest.{oldestOf}
 use mathlib.Core.Path.{_∙_}
 use borrow.Author.Needs.{needs}
 use Rattle.commit.proofs.reclaiming.older_slot.Statement.{statement}

@@ -5,27 +5,27 @@ use mathlib.Core.Path.{_≡_, refl, sym, _∙_}
 use lib.ListN.{length}
 use Prim.Native.Nat.{_≤_, _-_}
 use native.Mathlib.Nat.{le-refl}
+use native.Mathlib.Numerals.{add-one}
 use native.Mathlib.Omega.{arith}
 use borrow.Author.Tests.{not-true, not-false, leb-true}
 use Rattle.desk.proofs.DeskEntered.{markable}
 use Rattle.desk.proofs.Copied.{copies-four}
 use Rattle.layout.proofs.TraceLaws.{and-then, fenced}
-use Rattle.layout.specs.Below.{lowest}
-use Rattle.layout.proofs.BelowLaws.{lowest-more}
+use Rattle.layout.specs.Oldest.{oldestOf}
 use Rattle.desk.specs.Entering.{imageFault}
 use Rattle.layout.specs.Checks.{roomFor}
 use Rattle.commit.proofs.Lists.{settle-length}
 use Rattle.desk.proofs.Entered.{Entered, entered, homes-inside}
 use Rattle.layout.proofs.Stored.{stored-none, stored-run}
-use Rattle.commit.proofs.SettleLaws.{waitsAt, settle-refused, settle-unpublished, settle-waits, settle-stores}
+use Rattle.commit.proofs.SettleLaws.{startAt, settle-refused, settle-unpublished, settle-waits, settle-stores}
 use Rattle.commit.proofs.settling.settle.Statement.{statement}
 use Rattle.commit.proofs.settling.settle.Tie as tie
 
 abbrev Inv-loop : tie.InvT-loop
-Inv-loop image trace session desk sound n m fault i e end t₀ t = (t ≤ 16) × (lowest t (waitsAt desk end) ≡ t)
+Inv-loop image trace session desk sound n m fault i e end reader₀ t₀ reader t = (t ≤ 16) × (reader ≡ oldestOf (startAt desk end) t)
 
 abbrev μ-loop : tie.MeasureT-loop
-μ-loop image trace session desk sound n m fault i e end t₀ t = 16 - t
+μ-loop image trace session desk sound n m fault i e end reader₀ t₀ reader t = 16 - t
 
 -- the common checks have passed
 passed : (c : tie.Else1 Inv-loop μ-loop) → imageFault (c .before .before .before .before .before .before .args .image .now) (c .before .before .before .before .before .before .args .t2) (roomFor (length (c .before .before .before .before .before .before .args .trace .now))) (c .before .before .before .before .before .before .args .session) ≡ 0
@@ -83,7 +83,7 @@ end-of-requires : tie.Need-end-of-requires Inv-loop μ-loop
 end-of-requires c κs = search needs
 
 loop-holds : tie.Need-loop-holds Inv-loop μ-loop
-unfolding lowest
+unfolding oldestOf
 loop-holds c = (search needs, refl)
 
 mul-other : tie.Need-mul-other Inv-loop μ-loop
@@ -92,8 +92,21 @@ mul-other c = search needs
 element-copy-out-other : tie.Need-element-copy-out-other Inv-loop μ-loop
 element-copy-out-other c = search needs
 
-starts-below-requires : tie.Need-starts-below-requires Inv-loop μ-loop
-starts-below-requires c κs = search needs
+start-below-requires : tie.Need-start-below-requires Inv-loop μ-loop
+start-below-requires c κs = search needs
+
+older-requires : tie.Need-older-requires Inv-loop μ-loop
+older-requires c κs = search needs
+
+add-t : tie.Need-add-t Inv-loop μ-loop
+add-t c = search needs
+
+loop-less : tie.Need-loop-less Inv-loop μ-loop
+loop-less c = search needs
+
+loop-again : tie.Need-loop-again Inv-loop μ-loop
+unfolding oldestOf
+loop-again c = (search needs, c .older .ensures ∙ rw ((c .before) .start-below .ensures, (c .before .before .before .before) .loop .inv .1, add-one))
 
 answers-requires-3 : tie.Need-answers-requires-3 Inv-loop μ-loop
 answers-requires-3 c κs = search needs
@@ -103,42 +116,34 @@ same-length-3 c = search needs
 
 returns-3 : tie.Need-returns-3 Inv-loop μ-loop
 returns-3 c =
-    let a = (c .before .before .before .before .before .before .before .before .before .before .before .before .before .before .before .before) .args in
-    let g = settle-waits (a .image .now) (a .t2) (length (a .trace .now)) (a .session) (passed (c .before .before .before .before .before .before .before .before .before .before)) (sym ((c .before .before .before .before .before .before .before .before) .is-published .ensures) ∙ not-false _ ((c .before .before .before .before .before .before .before) .if2 .left)) ((c .before .before .before .before .before .before) .end-of .result) ((c .before .before .before .before .before .before) .end-of .ensures) ((c .before .before .before .before .before) .loop .t) ((c .before .before .before .before) .loop-test .taken) ((c .before .before .before .before .before) .loop .inv .1) (sym ((c .before .before) .starts-below .ensures) ∙ (c .before) .if3 .taken) in
+    let a = (c .before .before .before .before .before .before .before .before .before .before .before .before .before .before .before) .args in
+    let e : (c .before .before .before .before) .loop .t ≡ 16 = omega (arith, (c .before .before .before .before) .loop .inv .0, (c .before .before .before) .loop-test .left) in
+    let g = settle-waits (a .image .now) (a .t2) (length (a .trace .now)) (a .session) (passed (c .before .before .before .before .before .before .before .before .before)) (sym ((c .before .before .before .before .before .before .before) .is-published .ensures) ∙ not-false _ ((c .before .before .before .before .before .before) .if2 .left)) ((c .before .before .before .before .before) .end-of .result) ((c .before .before .before .before .before) .end-of .ensures) ((c .before .before .before .before) .loop .reader) (rw e at ((c .before .before .before .before) .loop .inv .1)) ((c .before) .if3 .taken) in
     settle-tells _ _ _ _ (c .answers3 .ensures ∙ sym (g .replies), stored-none _ _ _ (g .lists))
 
-add-t : tie.Need-add-t Inv-loop μ-loop
-add-t c = search needs
-
-loop-less : tie.Need-loop-less Inv-loop μ-loop
-loop-less c = search needs
-
-loop-again : tie.Need-loop-again Inv-loop μ-loop
-loop-again c = (search needs, lowest-more _ _ ((c .before .before .before .before) .loop .inv .1) (sym ((c .before) .starts-below .ensures) ∙ c .if3 .left))
-
 put-homes-requires : tie.Need-put-homes-requires Inv-loop μ-loop
-put-homes-requires c κs = ((few (c .before .before .before .before .before .before .before .before .before), omega (arith, few (c .before .before .before .before .before .before .before .before .before), room (c .before .before .before .before .before .before .before .before .before))), homes-inside (facts (c .before .before .before .before .before .before .before .before .before)))
+put-homes-requires c κs = ((few (c .before .before .before .before .before .before .before .before .before .before .before), omega (arith, few (c .before .before .before .before .before .before .before .before .before .before .before), room (c .before .before .before .before .before .before .before .before .before .before .before))), homes-inside (facts (c .before .before .before .before .before .before .before .before .before .before .before)))
 
 put-fence-requires : tie.Need-put-fence-requires Inv-loop μ-loop
-put-fence-requires c κs = omega (arith, few (c .before .before .before .before .before .before .before .before .before .before .before .before .before .before .before), room (c .before .before .before .before .before .before .before .before .before .before .before .before .before .before .before))
+put-fence-requires c κs = omega (arith, few (c .before .before .before .before .before .before .before .before .before .before .before .before .before .before .before .before .before), room (c .before .before .before .before .before .before .before .before .before .before .before .before .before .before .before .before .before))
 
 unmark-requires : tie.Need-unmark-requires Inv-loop μ-loop
-unmark-requires c κs = let f = facts (c .before .before .before .before .before .before .before .before .before .before .before .before .before .before .before .before .before .before .before) in markable (f .coherent .session _ (f .small)) (f .coherent .n-high) _ (le-refl _)
+unmark-requires c κs = let f = facts (c .before .before .before .before .before .before .before .before .before .before .before .before .before .before .before .before .before .before .before .before .before) in markable (f .coherent .session _ (f .small)) (f .coherent .n-high) _ (le-refl _)
 
 idle-session-requires : tie.Need-idle-session-requires Inv-loop μ-loop
 idle-session-requires c κs = search needs
 
-mul-t23 : tie.Need-mul-t23 Inv-loop μ-loop
-mul-t23 c = omega (arith, facts (c .before .before .before .before .before .before .before .before .before .before .before .before .before .before .before .before .before .before .before .before .before) .small)
+mul-t24 : tie.Need-mul-t24 Inv-loop μ-loop
+mul-t24 c = omega (arith, facts (c .before .before .before .before .before .before .before .before .before .before .before .before .before .before .before .before .before .before .before .before .before .before .before) .small)
 
 element-set-from-desk : tie.Need-element-set-from-desk Inv-loop μ-loop
-element-set-from-desk c = facts (c .before .before .before .before .before .before .before .before .before .before .before .before .before .before .before .before .before .before .before .before .before) .small
+element-set-from-desk c = facts (c .before .before .before .before .before .before .before .before .before .before .before .before .before .before .before .before .before .before .before .before .before .before .before) .small
 
 mul-answers : tie.Need-mul-answers Inv-loop μ-loop
-mul-answers c = omega (arith, few (c .before .before .before .before .before .before .before .before .before .before .before .before .before .before .before .before .before .before .before .before .before))
+mul-answers c = omega (arith, few (c .before .before .before .before .before .before .before .before .before .before .before .before .before .before .before .before .before .before .before .before .before .before .before))
 
 add-answers : tie.Need-add-answers Inv-loop μ-loop
-add-answers c = omega (arith, few (c .before .before .before .before .before .before .before .before .before .before .before .before .before .before .before .before .before .before .before .before .before))
+add-answers c = omega (arith, few (c .before .before .before .before .before .before .before .before .before .before .before .before .before .before .before .before .before .before .before .before .before .before .before))
 
 answers-requires-4 : tie.Need-answers-requires-4 Inv-loop μ-loop
 answers-requires-4 c κs = search needs
@@ -151,12 +156,12 @@ same-length-5 c = search needs
 
 returns-4 : tie.Need-returns-4 Inv-loop μ-loop
 returns-4 c =
-    let e : (c .before .before .before .before .before .before .before .before .before .before .before .before .before .before .before .before .before) .loop .t ≡ 16 = omega (arith, (c .before .before .before .before .before .before .before .before .before .before .before .before .before .before .before .before .before) .loop .inv .0, (c .before .before .before .before .before .before .before .before .before .before .before .before .before .before .before .before) .loop-test .left) in
-    let h = rw e at ((c .before .before .before .before .before .before .before .before .before .before .before .before .before .before .before .before .before) .loop .inv .1) in
-    let a = (c .before .before .before .before .before .before .before .before .before .before .before .before .before .before .before .before .before .before .before .before .before .before .before .before .before .before .before .before) .args in
-    let g = settle-stores (a .image .now) (a .t2) (length (a .trace .now)) (a .session) (passed (c .before .before .before .before .before .before .before .before .before .before .before .before .before .before .before .before .before .before .before .before .before .before)) (sym ((c .before .before .before .before .before .before .before .before .before .before .before .before .before .before .before .before .before .before .before .before) .is-published .ensures) ∙ not-false _ ((c .before .before .before .before .before .before .before .before .before .before .before .before .before .before .before .before .before .before .before) .if2 .left)) ((c .before .before .before .before .before .before .before .before .before .before .before .before .before .before .before .before .before .before) .end-of .result) ((c .before .before .before .before .before .before .before .before .before .before .before .before .before .before .before .before .before .before) .end-of .ensures) h in settle-tells _ _ _ _ (
+    let e : (c .before .before .before .before .before .before .before .before .before .before .before .before .before .before .before .before .before .before .before) .loop .t ≡ 16 = omega (arith, (c .before .before .before .before .before .before .before .before .before .before .before .before .before .before .before .before .before .before .before) .loop .inv .0, (c .before .before .before .before .before .before .before .before .before .before .before .before .before .before .before .before .before .before) .loop-test .left) in
+    let a = (c .before .before .before .before .before .before .before .before .before .before .before .before .before .before .before .before .before .before .before .before .before .before .before .before .before .before .before .before .before .before) .args in
+    let g = settle-stores (a .image .now) (a .t2) (length (a .trace .now)) (a .session) (passed (c .before .before .before .before .before .before .before .before .before .before .before .before .before .before .before .before .before .before .before .before .before .before .before .before)) (sym ((c .before .before .before .before .before .before .before .before .before .before .before .before .before .before .before .before .before .before .before .before .before .before) .is-published .ensures) ∙ not-false _ ((c .before .before .before .before .before .before .before .before .before .before .before .before .before .before .before .before .before .before .before .before .before) .if2 .left)) ((c .before .before .before .before .before .before .before .before .before .before .before .before .before .before .before .before .before .before .before .before) .end-of .result) ((c .before .before .before .before .before .before .before .before .before .before .before .before .before .before .before .before .before .before .before .before) .end-of .ensures) ((c .before .before .before .before .before .before .before .before .before .before .before .before .before .before .before .before .before .before .before) .loop .reader) (rw e at ((c .before .before .before .before .before .before .before .before .before .before .before .before .before .before .before .before .before .before .before) .loop .inv .1)) ((c .before .before .before .before .before .before .before .before .before .before .before .before .before .before .before .before) .if3 .left) in
+    settle-tells _ _ _ _ (
       c .answers4 .ensures ∙ rw ((c .before) .idle-session .ensures, (c .before .before) .unmark .ensures) (sym (g .replies)),
-      stored-run _ (g .lists) (and-then ((c .before .before .before .before .before .before .before .before .before .before .before .before) .put-homes .ensures .0) (fenced ((c .before .before .before .before .before .before) .put-fence .ensures))) (omega (arith, settle-length (a .t2) (a .session), few (c .before .before .before .before .before .before .before .before .before .before .before .before .before .before .before .before .before .before .before .before .before .before), room (c .before .before .before .before .before .before .before .before .before .before .before .before .before .before .before .before .before .before .before .before .before .before))),
+      stored-run _ (g .lists) (and-then ((c .before .before .before .before .before .before .before .before .before .before .before .before) .put-homes .ensures .0) (fenced ((c .before .before .before .before .before .before) .put-fence .ensures))) (omega (arith, settle-length (a .t2) (a .session), few (c .before .before .before .before .before .before .before .before .before .before .before .before .before .before .before .before .before .before .before .before .before .before .before .before), room (c .before .before .before .before .before .before .before .before .before .before .before .before .before .before .before .before .before .before .before .before .before .before .before .before))),
     )
 
 pub settle-spec : {M : Type 1} → statement M
@@ -180,18 +185,19 @@ settle-spec =
     loop-holds
     mul-other
     element-copy-out-other
-    starts-below-requires
-    answers-requires-3
-    same-length-3
-    returns-3
+    start-below-requires
+    older-requires
     add-t
     loop-less
     loop-again
+    answers-requires-3
+    same-length-3
+    returns-3
     put-homes-requires
     put-fence-requires
     unmark-requires
     idle-session-requires
-    mul-t23
+    mul-t24
     element-set-from-desk
     mul-answers
     add-answers

@@ -1,4 +1,4 @@
-use Rattle.journal.specs.Oldest.{oldestOf}
+use Rattle.layout.specs.Oldest.{oldestOf}
 use Rattle.layout.specs.Image.{persistAt}
 use borrow.Author.Needs.{needs}
 use native.Mathlib.Numerals.{add-one}

@@ -1,4 +1,4 @@
--- What `oldestOf` finds: a least persist number, at the lowest place that has it.
+-- What `oldestOf` finds: a least number, at the lowest place that has it.
 use Prim.Native.Nat.{ℕ, zero, suc, _<_, _≤_}
 use mathlib.Core.Path.{_≡_, refl, sym, subst}
 use mathlib.Core.Logic.{_⊎_, inl, inr, ⊎-elim}
@@ -6,16 +6,16 @@ use native.Mathlib.Omega.{arith}
 use native.Mathlib.Nat.{le-of-suc-le-suc, eq-or-lt-of-le, not-suc-le-zero}
 use lib.Dec.{eqb, ltb}
 use borrow.Author.Tests.{eqb-true, eqb-false, ltb-true, ltb-false}
 use Rattle.layout.proofs.Says.{by-test}
-use Rattle.journal.specs.declared.scan.Oldest.{Oldest}
-use Rattle.journal.specs.Oldest.{oldestOf, older}
+use Rattle.layout.specs.declared.oldest.Oldest.{Oldest}
+use Rattle.layout.specs.Oldest.{oldestOf, older}
 
--- b is the oldest of the first n slots with the persist numbers f
+-- b is the oldest of the numbers f of the first n places
 pub record Least (f : ℕ → ℕ) (n : ℕ) (b : Oldest) : Type 0 where
-  pub none : b .persist ≡ 0 → (k : ℕ) → k < n → f k ≡ 0
-  pub some : (b .persist ≡ 0 → ⊥) → (b .place < n) × (f (b .place) ≡ b .persist)
-  pub least : (k : ℕ) → k < n → (f k ≡ 0 → ⊥) → b .persist ≤ f k
-  pub first : (b .persist ≡ 0 → ⊥) → (k : ℕ) → k < b .place → (f k ≡ 0 → ⊥) → b .persist < f k
+  pub none : b .number ≡ 0 → (k : ℕ) → k < n → f k ≡ 0
+  pub some : (b .number ≡ 0 → ⊥) → (b .place < n) × (f (b .place) ≡ b .number)
+  pub least : (k : ℕ) → k < n → (f k ≡ 0 → ⊥) → b .number ≤ f k
+  pub first : (b .number ≡ 0 → ⊥) → (k : ℕ) → k < b .place → (f k ≡ 0 → ⊥) → b .number < f k
 
 -- what holds below n, and at n, holds below suc n
 under : (P : ℕ → Type 0) (n : ℕ) → ((k : ℕ) → k < n → P k) → P n → (k : ℕ) → k < suc n → P k
@@ -27,20 +27,20 @@ module _ (f : ℕ → ℕ) (n : ℕ) (b : Oldest) (h : Least f n b) where
       record {
         none = λ e. under (λ k. f k ≡ 0) n (h .none e) z;
         some = λ ne. let r = h .some ne in (omega (arith, r .0), r .1);
-        least = under (λ k. (f k ≡ 0 → ⊥) → b .persist ≤ f k) n (h .least) (λ nz. absurd (nz z));
+        least = under (λ k. (f k ≡ 0 → ⊥) → b .number ≤ f k) n (h .least) (λ nz. absurd (nz z));
         first = h .first;
       }
 
-  later : (b .persist ≡ 0 → ⊥) → b .persist ≤ f n → Least f (suc n) b
+  later : (b .number ≡ 0 → ⊥) → b .number ≤ f n → Least f (suc n) b
   later ne le =
       record {
         none = λ e. absurd (ne e);
         some = λ _. let r = h .some ne in (omega (arith, r .0), r .1);
-        least = under (λ k. (f k ≡ 0 → ⊥) → b .persist ≤ f k) n (h .least) (λ nz. le);
+        least = under (λ k. (f k ≡ 0 → ⊥) → b .number ≤ f k) n (h .least) (λ nz. le);
         first = h .first;
       }
 
-  taken : (f n ≡ 0 → ⊥) → (b .persist ≡ 0) ⊎ (f n < b .persist) → Least f (suc n) (record { persist = f n; place = n })
+  taken : (f n ≡ 0 → ⊥) → (b .number ≡ 0) ⊎ (f n < b .number) → Least f (suc n) (record { number = f n; place = n })
   taken nz why =
       record {
         none = λ e. absurd (nz e);
@@ -59,9 +59,9 @@ module _ (f : ℕ → ℕ) (n : ℕ) (b : Oldest) (h : Least f n b) where
   step =
       by-test (eqb (f n) 0)
       (λ z. simp z (empty (eqb-true _ _ z)))
-      (λ nz. by-test (eqb (b .persist) 0)
+      (λ nz. by-test (eqb (b .number) 0)
       (λ e. simp (nz, e) (taken (eqb-false _ _ nz) (inl (eqb-true _ _ e))))
-      (λ e. by-test (ltb (f n) (b .persist))
+      (λ e. by-test (ltb (f n) (b .number))
       (λ lt. simp (nz, e, lt) (taken (eqb-false _ _ nz) (inr (ltb-true _ _ lt))))
       (λ ge. simp (nz, e, ge) (later (eqb-false _ _ e) (ltb-false _ _ ge)))))
 

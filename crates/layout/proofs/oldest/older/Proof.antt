@@ -1,6 +1,6 @@
 use borrow.Author.Tests.{lt-ltb, le-ltb, eq-eqb, ne-eqb}
-use Rattle.journal.proofs.scan.older.Statement.{statement}
-use Rattle.journal.proofs.scan.older.Tie as tie
+use Rattle.layout.proofs.oldest.older.Statement.{statement}
+use Rattle.layout.proofs.oldest.older.Tie as tie
 
 returns : tie.Need-returns
 returns c = simp (eq-eqb _ _ (c .if1 .taken))
