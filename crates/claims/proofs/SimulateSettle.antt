@@ -23,7 +23,7 @@ use Rattle.desk.specs.declared.state.Phase.the-variants.{Idle, Active, Sealed, 
 use Rattle.desk.specs.declared.state.Session.{Session}
 use Rattle.desk.specs.declared.state.Desk.{Desk}
 use Rattle.desk.proofs.Facts.{NumberIn}
-use Rattle.commit.specs.Settle.{settleFault, settleEntries, startBelow, oldestReader, waitsB, goHomeEntries, settleRefused, settleDone, settleReply}
+use Rattle.commit.specs.Settle.{settleFault, settleEntries, startBelow, startAt, oldestReader, waitsB, goHomeEntries, settleRefused, settleDone, settleReply}
 use Rattle.commit.specs.declared.settling.SettleReply.{SettleReply}
 use Rattle.layout.specs.Told.{wait}
 use Rattle.commit.specs.Told.{settleTold}
@@ -91,7 +91,7 @@ Agrees b (some t) = (b .number ≢ 0) × (b .place ≡ t)
 module _ (N M : ℕ) (img : List ℕ) (d : Desk) (h : Ready N M img d) (end : ℕ) where
   -- the start of session t, if it is in the way, and whether it is the one that began first
   abbrev start : ℕ → ℕ
-  start t = startBelow end (sessionAt d t .phase)
+  start = startAt d end
 
   abbrev first : ℕ → Bool
   first t = beganFirst M (abs d) end (pack (sessionAt d t))

@@ -16,7 +16,7 @@ use Rattle.desk.specs.declared.state.Desk.{Desk}
 use Rattle.snapshot.specs.Own.{ownPlace, zeroWords}
 use Rattle.snapshot.specs.Read.{holderEntry}
 use Rattle.commit.specs.Finish.{finishFault}
-use Rattle.commit.specs.Settle.{endOf, startBelow}
+use Rattle.commit.specs.Settle.{endOf, startAt}
 use Rattle.commit.specs.Reclaim.{chosen, clearEntries}
 use Rattle.recovery.specs.Recover.{slotsOf, cleanB, firstLog, replayEntries}
 use Rattle.history.specs.Call.{Call, begin, read, write, abandon, finish, publish, settle, reclaim}
@@ -222,7 +222,7 @@ showsSealed = past 2 showingSealed
 
 -- the starts of the sessions in the way of session s, 0 for the others
 abbrev pub startsFor : Desk → ℕ → ℕ → ℕ
-startsFor d s t = startBelow (endOf (sessionAt d s .phase)) (sessionAt d t .phase)
+startsFor d s = startAt d (endOf (sessionAt d s .phase))
 
 -- settle that waits where the store does, and names the session that these starts have it pick
 abbrev pub namingBy : ((ℕ → ℕ) → ℕ) → Change

@@ -13,7 +13,7 @@ use Rattle.desk.specs.Desk.{sessionAt, isPublished, dropped}
 use Rattle.desk.specs.declared.state.Desk.{Desk}
 use Rattle.desk.specs.Entering.{imageFault}
 use Rattle.layout.specs.Checks.{roomFor}
-use Rattle.commit.specs.Settle.{settleFault, endOf, startBelow, oldestReader, goHomeEntries, settleEntries, settleRefused, settleReply}
+use Rattle.commit.specs.Settle.{settleFault, endOf, startAt, oldestReader, goHomeEntries, settleEntries, settleRefused, settleReply}
 use Rattle.commit.specs.declared.settling.SettleAnswer.the-variants.{Wait, Ok}
 use Rattle.commit.specs.declared.settling.SettleReply.{SettleReply}
 use Rattle.commit.proofs.Lists.{settle-length}
@@ -22,10 +22,6 @@ use Rattle.commit.proofs.Lists.{settle-length}
 pub record Settles (img : List ℕ) (d : Desk) (len s : ℕ) (reply : SettleReply) (entries : List Entry) : Type 0 where
   pub replies : settleReply img d len s ≡ reply
   pub lists : settleEntries img d len s ≡ entries
-
--- the start of session t, if it is active with a start below this end
-abbrev pub startAt : Desk → ℕ → ℕ → ℕ
-startAt d end t = startBelow end (sessionAt d t .phase)
 
 module _ (img : List ℕ) (d : Desk) (len s : ℕ) where
   -- refused by 1 to 4

@@ -31,23 +31,27 @@ endOf (Active b) = 0
 endOf (Sealed p) = 0
 endOf (Published e) = e
 
--- the start of an active session, if it is below this end; 0 for a session that is not in the way, since a start is at least 1
+-- the start of a session that is in the way of this end: active, with a start below it. 0 for any other; a start is at least 1
 abbrev pub startBelow : ℕ → Phase → ℕ
 startBelow end Idle = 0
 startBelow end (Active b) = cond (ltb b end) b 0
 startBelow end (Sealed p) = 0
 startBelow end (Published e) = 0
 
--- the reader that settle waits for: of the sessions in the way the one with the smallest start, among equal starts the lowest; its start as
--- number, 0 where no session is in the way, and the session as place
+abbrev pub startAt : Desk → ℕ → ℕ → ℕ
+startAt d end t = startBelow end (sessionAt d t .phase)
+
+-- the reader that session s waits for: of the sessions in the way the one with the smallest start, among equal starts the lowest; its number
+-- is the start, 0 where no session is in the way, and its place the session
 unfoldable pub oldestReader : Desk → ℕ → Oldest
-oldestReader d s = oldestOf (λ t. startBelow (endOf (sessionAt d s .phase)) (sessionAt d t .phase)) 16
+oldestReader d s = oldestOf (startAt d (endOf (sessionAt d s .phase))) 16
 
 -- the copies go home, and a fence
 abbrev pub goHomeEntries : Desk → ℕ → List Entry
 goHomeEntries d s =
     stores (homesWrites (copiedRec (sessionAt d s)) (copiedWords (sessionAt d s)) (sessionAt d s .count)) ++ (fence ∷ [])
 
+-- a session is in the way
 abbrev pub waitsB : Desk → ℕ → Bool
 waitsB d s = not (eqb (oldestReader d s .number) 0)
 

@@ -65,7 +65,7 @@ fn answers(desk: Desk, answer: SettleAnswer, entries: u64) -> SettleReply
     }
 }
 
-// Sends a published session's copies home, unless an active session has a start below its end.
+// Sends a published session's copies home, unless active sessions have a start below its end: then it names the oldest of them.
 pub fn settle(image: &mut [u64], mut desk: Desk, trace: &mut [u64], session: u64) -> SettleReply
     ensures reply { λ r. ⌜ r ≡ settleReply (now (image .entry)) desk (length (now (trace .entry))) session ⌝ }
     ensures image { λ r. ⌜ now (image .exit)

@@ -85,13 +85,13 @@ inTheWay e (active b q cs) = ltb b e
 inTheWay e (sealed n q cs) = false
 inTheWay e (published f q cs) = false
 
--- the session is active with a start below e, and no session has a smaller start
+-- the session is active with a start below e, and no active session has a smaller start
 abbrev pub beganFirst : ℕ → Desk → ℕ → Session → Bool
 beganFirst M d e idle = false
 beganFirst M d e (active b q cs) = ltb b e && not (anyBelow M (λ t. inTheWay b (d .session t)))
 beganFirst M d e (sealed n q cs) = false
 beganFirst M d e (published f q cs) = false
 
--- the session that an end e waits for: the lowest of those
+-- the session that an end e waits for: the one with the smallest start, and among equal starts the lowest
 abbrev pub awaited : ℕ → Desk → ℕ → Option ℕ
 awaited M d e = firstOf (λ t. beganFirst M d e (d .session t)) M

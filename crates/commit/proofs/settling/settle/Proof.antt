@@ -17,7 +17,8 @@ use Rattle.layout.specs.Checks.{roomFor}
 use Rattle.commit.proofs.Lists.{settle-length}
 use Rattle.desk.proofs.Entered.{Entered, entered, homes-inside}
 use Rattle.layout.proofs.Stored.{stored-none, stored-run}
-use Rattle.commit.proofs.SettleLaws.{startAt, settle-refused, settle-unpublished, settle-waits, settle-stores}
+use Rattle.commit.specs.Settle.{startAt}
+use Rattle.commit.proofs.SettleLaws.{settle-refused, settle-unpublished, settle-waits, settle-stores}
 use Rattle.commit.proofs.settling.settle.Statement.{statement}
 use Rattle.commit.proofs.settling.settle.Tie as tie
 
