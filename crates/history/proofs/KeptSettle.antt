@@ -1,6 +1,6 @@
 -- Settle keeps the invariant.
 use Prim.Native.Nat.{ℕ, zero, suc, _*_, _≤_, _<_}
-use mathlib.Core.Path.{_≡_, refl, sym, _∙_}
+use mathlib.Core.Path.{_≡_, refl, _∙_}
 use mathlib.Core.Bool.{not, false}
 use mathlib.Core.Option.{Option, none, some}
 use mathlib.Core.List.{List}
