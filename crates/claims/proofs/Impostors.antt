@@ -27,7 +27,7 @@ use Rattle.desk.specs.declared.state.Phase.the-variants.{Idle, Active, Sealed, 
 use Rattle.desk.specs.declared.state.Desk.{Desk}
 use Rattle.layout.specs.Tidy.{Tidy}
 use Rattle.commit.specs.Finish.{finishFault}
-use Rattle.commit.specs.Settle.{endOf, startBelow}
+use Rattle.commit.specs.Settle.{endOf, startBelow, startsFor}
 use Rattle.commit.specs.Reclaim.{clearEntries}
 use Rattle.recovery.specs.Open.{openFault, openReply}
 use Rattle.recovery.specs.Recover.{unsoundPlace, tiedBelow, tiesB, recoverFault, firstLog, recoverRefused, recoverReply, recoverEntries}
@@ -41,7 +41,7 @@ use Rattle.claims.specs.Rules.{Reply, Rules, storeRules}
 use Rattle.claims.specs.Run.{World, opened, openLedger, reply, step, run, stored}
 use Rattle.claims.specs.Recovery.{replays, afterCalls, afterStop, afterAttempts, afterWhole, Ends}
 use Rattle.claims.specs.Demands.{Demand2, Demand3, Cut, during, cutImage, cutHistory, Recovered}
-use Rattle.claims.specs.Impostors.{Impostors, Change, kindOf, past, telling, relisting, zeroing, miscounting, clearingEarly, waitingForAll, showingSealed, busyOther, heldSealed, sealedCopy, turnsAway, waitsAtOnce, holdsAtOnce, readsZeros, zeroed, doesNothing, storesNothing, saysClean, clearing, clearsOthers, withoutLast, unfencedAt, replaysOne, miscounts, unfenced, oneGroup, sessionOrder, clearsEarly, waitsForAll, showsSealed, startsFor, namingBy, names, lowestReader, lastReader, newestReader}
+use Rattle.claims.specs.Impostors.{Impostors, Change, kindOf, past, telling, relisting, zeroing, miscounting, clearingEarly, waitingForAll, showingSealed, busyOther, heldSealed, sealedCopy, turnsAway, waitsAtOnce, holdsAtOnce, readsZeros, zeroed, doesNothing, storesNothing, saysClean, clearing, clearsOthers, withoutLast, unfencedAt, replaysOne, miscounts, unfenced, oneGroup, sessionOrder, clearsEarly, waitsForAll, showsSealed, namingBy, names, lowestReader, lastReader, newestReader}
 use Rattle.claims.proofs.Abstraction.{txn-of, copiesOf, pack, marked}
 use Rattle.claims.proofs.Entering.{holder-named}
 use Rattle.claims.proofs.Along.{Along, same, step-along, run-along, opened-along, call-fenced}

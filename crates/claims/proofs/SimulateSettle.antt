@@ -1,6 +1,6 @@
 -- Settle gives what is due.
 use Prim.Native.Nat.{ℕ, _≤_, _<_}
-use mathlib.Core.Path.{_≡_, refl, sym, ap, _∙_}
+use mathlib.Core.Path.{_≡_, refl, sym, ap, _∙_, subst}
 use mathlib.Core.Logic.{_≢_, ⊎-elim}
 use mathlib.Core.Bool.{Bool, true, false, not, cond, false≢true}
 use mathlib.Core.Option.{Option, none, some}
@@ -23,7 +23,7 @@ use Rattle.desk.specs.declared.state.Phase.the-variants.{Idle, Active, Sealed, 
 use Rattle.desk.specs.declared.state.Session.{Session}
 use Rattle.desk.specs.declared.state.Desk.{Desk}
 use Rattle.desk.proofs.Facts.{NumberIn}
-use Rattle.commit.specs.Settle.{settleFault, settleEntries, startBelow, startAt, oldestReader, waitsB, goHomeEntries, settleRefused, settleDone, settleReply}
+use Rattle.commit.specs.Settle.{settleFault, settleEntries, endOf, startBelow, oldestReader, waitsB, goHomeEntries, settleRefused, settleDone, settleReply}
 use Rattle.commit.specs.declared.settling.SettleReply.{SettleReply}
 use Rattle.layout.specs.Told.{wait}
 use Rattle.commit.specs.Told.{settleTold}
@@ -91,7 +91,7 @@ Agrees b (some t) = (b .number ≢ 0) × (b .place ≡ t)
 module _ (N M : ℕ) (img : List ℕ) (d : Desk) (h : Ready N M img d) (end : ℕ) where
   -- the start of session t, if it is in the way, and whether it is the one that began first
   abbrev start : ℕ → ℕ
-  start = startAt d end
+  start t = startBelow end (sessionAt d t .phase)
 
   abbrev first : ℕ → Bool
   first t = beganFirst M (abs d) end (pack (sessionAt d t))
@@ -196,7 +196,8 @@ module _ (N M : ℕ) (img : List ℕ) (d : Desk) (f : ℕ → ℕ) (len s : ℕ)
 
   waits-agree : (end : ℕ) → e .phase ≡ Published end → Agrees (oldestReader d s) (awaited M (abs d) end)
   unfolding oldestReader
-  waits-agree end z = rw z (reader-agrees N M img d h end)
+  waits-agree end z =
+      subst (λ (p : Phase). Agrees (oldestOf (λ t. startBelow (endOf p) (sessionAt d t .phase)) 16) (awaited M (abs d) end)) (sym z) (reader-agrees N M img d h end)
 
   -- a published session, by the reader it waits for
   settled : (o : Option ℕ) → Agrees (oldestReader d s) o → Does d f (settle-call d f len s) 0 (waits (copiesOf e) o)

@@ -16,7 +16,7 @@ use Rattle.desk.specs.declared.state.Desk.{Desk}
 use Rattle.snapshot.specs.Own.{ownPlace, zeroWords}
 use Rattle.snapshot.specs.Read.{holderEntry}
 use Rattle.commit.specs.Finish.{finishFault}
-use Rattle.commit.specs.Settle.{endOf, startAt}
+use Rattle.commit.specs.Settle.{startsFor}
 use Rattle.commit.specs.Reclaim.{chosen, clearEntries}
 use Rattle.recovery.specs.Recover.{slotsOf, cleanB, firstLog, replayEntries}
 use Rattle.history.specs.Call.{Call, begin, read, write, abandon, finish, publish, settle, reclaim}
@@ -220,11 +220,7 @@ showsSealed = past 2 showingSealed
 
 -- ---- impostors that break document 02's Req 01
 
--- the starts of the sessions in the way of session s, 0 for the others
-abbrev pub startsFor : Desk → ℕ → ℕ → ℕ
-startsFor d s = startAt d (endOf (sessionAt d s .phase))
-
--- settle that waits where the store does, and names the session that these starts have it pick
+-- settle that waits where the store does, and names the session that it picks by the starts of those in the way
 abbrev pub namingBy : ((ℕ → ℕ) → ℕ) → Change
 namingBy pick img d c y = cond (is Wait (y .told)) (tells (wait (pick (startsFor d (sessionOf c)))) d) y
 

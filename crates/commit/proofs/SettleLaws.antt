@@ -7,13 +7,12 @@ use borrow.Author.Tests.{eq-eqb, ne-eqb}
 use Rattle.layout.specs.Checks.{answered}
 use Rattle.layout.proofs.ChecksLaws.{answered-refused, answered-passed}
 use Rattle.layout.specs.Entries.{Entry}
-use Rattle.layout.specs.Oldest.{oldestOf}
 use Rattle.layout.specs.declared.oldest.Oldest.{Oldest}
 use Rattle.desk.specs.Desk.{sessionAt, isPublished, dropped}
 use Rattle.desk.specs.declared.state.Desk.{Desk}
 use Rattle.desk.specs.Entering.{imageFault}
 use Rattle.layout.specs.Checks.{roomFor}
-use Rattle.commit.specs.Settle.{settleFault, endOf, startAt, oldestReader, goHomeEntries, settleEntries, settleRefused, settleReply}
+use Rattle.commit.specs.Settle.{settleFault, oldestReader, goHomeEntries, settleEntries, settleRefused, settleReply}
 use Rattle.commit.specs.declared.settling.SettleAnswer.the-variants.{Wait, Ok}
 use Rattle.commit.specs.declared.settling.SettleReply.{SettleReply}
 use Rattle.commit.proofs.Lists.{settle-length}
@@ -43,19 +42,14 @@ module _ (img : List ℕ) (d : Desk) (len s : ℕ) where
           lists = answered-passed _ _ (λ _. []) _ z ∙ rw f;
         }
 
-    module _ (a : isPublished (sessionAt d s .phase) ≡ true) (end : ℕ) (e : end ≡ endOf (sessionAt d s .phase))
-        (reader : Oldest) (o : reader ≡ oldestOf (startAt d end) 16) where
-      is-reader : oldestReader d s ≡ reader
-      unfolding oldestReader
-      is-reader = sym (rw e at o)
-
+    module _ (a : isPublished (sessionAt d s .phase) ≡ true) (reader : Oldest) (o : reader ≡ oldestReader d s) where
       -- an active session has a start below the end
       pub settle-waits : (reader .number ≡ 0 → ⊥) → Settles img d len s (record { answer = Wait (reader .place); entries = 0; desk = d }) []
       unfolding settleReply settleEntries settleFault answered
       settle-waits n =
           record {
-            replies = answered-passed _ _ (settleRefused d) _ z ∙ rw (a, is-reader, ne-eqb (reader .number) 0 n);
-            lists = answered-passed _ _ (λ _. []) _ z ∙ rw (a, is-reader, ne-eqb (reader .number) 0 n);
+            replies = answered-passed _ _ (settleRefused d) _ z ∙ rw (a, ← o, ne-eqb (reader .number) 0 n);
+            lists = answered-passed _ _ (λ _. []) _ z ∙ rw (a, ← o, ne-eqb (reader .number) 0 n);
           }
 
       -- the copies go home
@@ -64,6 +58,6 @@ module _ (img : List ℕ) (d : Desk) (len s : ℕ) where
       unfolding settleReply settleEntries settleFault answered
       settle-stores n =
           record {
-            replies = answered-passed _ _ (settleRefused d) _ z ∙ rw (a, is-reader, eq-eqb (reader .number) 0 n, settle-length d s);
-            lists = answered-passed _ _ (λ _. []) _ z ∙ rw (a, is-reader, eq-eqb (reader .number) 0 n);
+            replies = answered-passed _ _ (settleRefused d) _ z ∙ rw (a, ← o, eq-eqb (reader .number) 0 n, settle-length d s);
+            lists = answered-passed _ _ (λ _. []) _ z ∙ rw (a, ← o, eq-eqb (reader .number) 0 n);
           }

@@ -38,13 +38,14 @@ startBelow end (Active b) = cond (ltb b end) b 0
 startBelow end (Sealed p) = 0
 startBelow end (Published e) = 0
 
-abbrev pub startAt : Desk → ℕ → ℕ → ℕ
-startAt d end t = startBelow end (sessionAt d t .phase)
+-- the starts of the sessions in the way of session s, 0 for the others
+abbrev pub startsFor : Desk → ℕ → ℕ → ℕ
+startsFor d s t = startBelow (endOf (sessionAt d s .phase)) (sessionAt d t .phase)
 
--- the reader that session s waits for: of the sessions in the way the one with the smallest start, among equal starts the lowest; its number
--- is the start, 0 where no session is in the way, and its place the session
+-- the reader that session s waits for: of those in the way the one with the smallest start, among equal starts the lowest; its number is the
+-- start, 0 where no session is in the way, and its place the session
 unfoldable pub oldestReader : Desk → ℕ → Oldest
-oldestReader d s = oldestOf (startAt d (endOf (sessionAt d s .phase))) 16
+oldestReader d s = oldestOf (startsFor d s) 16
 
 -- the copies go home, and a fence
 abbrev pub goHomeEntries : Desk → ℕ → List Entry

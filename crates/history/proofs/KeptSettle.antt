@@ -1,15 +1,15 @@
 -- Settle keeps the invariant.
 use Prim.Native.Nat.{ℕ, zero, suc, _*_, _≤_, _<_}
 use mathlib.Core.Path.{_≡_, refl, _∙_}
-use mathlib.Core.Bool.{not, false}
+use mathlib.Core.Bool.{true, false, not, false≢true}
 use mathlib.Core.Option.{Option, none, some}
 use mathlib.Core.List.{List}
 use native.Mathlib.Decide.{ℕ-discrete}
 use native.Mathlib.Nat.{le-refl}
 use native.Mathlib.Omega.{arith}
 use lib.ListN.{length}
-use lib.Dec.{T, T-not, nltb→le}
-use borrow.Author.Tests.{lt-ltb, le-ltb}
+use lib.Dec.{T, T-not}
+use borrow.Author.Tests.{lt-ltb, ltb-true}
 use Rattle.layout.specs.Below.{anyBelow}
 use Rattle.layout.proofs.Says.{says-any, says-itself, says-not}
 use Rattle.layout.specs.Crash.{crashed as cut}
@@ -49,42 +49,37 @@ module _ (N M : ℕ) (img : List ℕ) (d : Desk) (h : History) (H : Holds N M im
         hm : Homing N (2 * M) (view N img) (view N img′) (writes cs)
         hm = settle-homing N M img cs img′ (logged .lawful .below) so
 
-    -- where no session is awaited, none is active with a start below e: one with a start of b, and none before it, would be awaited
+    -- a session in the way of b has a start below it
+    begun : (b : ℕ) (x : Session) → inTheWay b x ≡ true → (c : ℕ) × Starts c x × (c < b)
+    begun b idle t = absurd (false≢true t)
+    begun b (active c p ds) t = (c, refl, ltb-true c b t)
+    begun b (sealed n p ds) t = absurd (false≢true t)
+    begun b (published f p ds) t = absurd (false≢true t)
+
+    -- one with a start of b below e, and no session in the way of b, is awaited
+    first-begun : (b : ℕ) → b < e → anyBelow M (λ t. inTheWay b (d .session t)) ≡ false → (x : Session) → Starts b x → T (beganFirst M d e x)
+    first-begun b l a idle k = absurd k
+    first-begun b l a (active c p ds) k = rw (k, lt-ltb b e l, a) tt
+    first-begun b l a (sealed n p ds) k = absurd k
+    first-begun b l a (published f p ds) k = absurd k
+
+    -- where none is awaited every start is at least b, for any b up to e
     module _ (g : (t : ℕ) → t < M → T (not (beganFirst M d e (d .session t)))) where
-      none-at : (b : ℕ) → b < e → ((t : ℕ) → t < M → T (not (inTheWay b (d .session t)))) → (t : ℕ) → t < M → T (not (inTheWay (suc b) (d .session t)))
-      none-at b l before t lt = go (d .session t) (g t lt) (before t lt)
+      late-next : (b : ℕ) → b < e → ((σ u : ℕ) → u < M → Starts σ (d .session u) → b ≤ σ) → (σ u : ℕ) → u < M → Starts σ (d .session u) → suc b ≤ σ
+      late-next b l from σ u lu st = go (ℕ-discrete σ b)
         where
-          alone : anyBelow M (λ u. inTheWay b (d .session u)) ≡ false
-          alone = says-not (says-any M (λ u. says-itself (inTheWay b (d .session u)))) (λ k. T-not (inTheWay b (d .session (k .0))) (before (k .0) (k .1)) (rw (k .2) tt))
+          alone : anyBelow M (λ t. inTheWay b (d .session t)) ≡ false
+          alone =
+              says-not (says-any M (λ t. says-itself (inTheWay b (d .session t))))
+              (λ k. let c = begun b (d .session (k .0)) (k .2) in omega (arith, c .2, from (c .0) (k .0) (k .1) (c .1)))
 
-          go : (x : Session) → T (not (beganFirst M d e x)) → T (not (inTheWay b x)) → T (not (inTheWay (suc b) x))
-          go idle n k = tt
-          go (active c p ds) n k = at (ℕ-discrete c b)
-            where
-              at : Dec (c ≡ b) → T (not (inTheWay (suc b) (active c p ds)))
-              at (yes x) = absurd (rw (x, lt-ltb b e l, alone) at n)
-              at (no x) = rw (le-ltb c (suc b) (omega (arith, nltb→le c b k))) tt
-          go (sealed n p ds) m k = tt
-          go (published f p ds) n k = tt
+          go : Dec (σ ≡ b) → suc b ≤ σ
+          go (yes x) = absurd (T-not (beganFirst M d e (d .session u)) (g u lu) (first-begun b l alone (d .session u) (rw x at st)))
+          go (no x) = omega (arith, from σ u lu st)
 
-      none-below : (b : ℕ) → b ≤ e → (t : ℕ) → t < M → T (not (inTheWay b (d .session t)))
-      none-below zero l t lt = go (d .session t)
-        where
-          go : (x : Session) → T (not (inTheWay 0 x))
-          go idle = tt
-          go (active c p ds) = rw (le-ltb c 0 (omega arith)) tt
-          go (sealed n p ds) = tt
-          go (published f p ds) = tt
-      none-below (suc b) l t lt = none-at b (omega arith) (none-below b (omega arith)) t lt
-
-    late : ((t : ℕ) → t < M → T (not (inTheWay e (d .session t)))) → (σ u : ℕ) → u < M → Starts σ (d .session u) → e ≤ σ
-    late g σ u lu st = go (d .session u) (g u lu) st
-      where
-        go : (x : Session) → T (not (inTheWay e x)) → Starts σ x → e ≤ σ
-        go idle t k = absurd k
-        go (active b p ds) t k = rw k at (nltb→le b e t)
-        go (sealed n p ds) t k = absurd k
-        go (published f p ds) t k = absurd k
+      late : (b : ℕ) → b ≤ e → (σ u : ℕ) → u < M → Starts σ (d .session u) → b ≤ σ
+      late zero l σ u lu st = omega arith
+      late (suc b) l σ u lu st = late-next b (omega arith) (late b (omega arith)) σ u lu st
 
     settle-waits : (o : Option ℕ) → Lowest (λ t. beganFirst M d e (d .session t)) M o → Done N M img d h (settle len s) (waits cs o)
     settle-waits (some t) g = same N M img d h H (settle len s) (wait t) (λ _. refl) refl refl (λ _. refl)
@@ -95,7 +90,7 @@ module _ (N M : ℕ) (img : List ℕ) (d : Desk) (h : History) (H : Holds N M im
         inv = settling N M (view N img) (view N (made (settleStores cs) img)) d h s e q cs (H .inv) l is
             (settle-homing N M img cs (made (settleStores cs) img) (logged .lawful .below) (made-some (writes cs) img))
             (made-all (writes cs) img (writes-functional cs (logged .lawful .distinct)) homes-in)
-            (late (none-below g e (le-refl e)));
+            (late g e (le-refl e));
       };
       later = record { clock = omega arith; views = λ σ r k. refl };
       low = λ j lj. settle-low N M img cs (made (settleStores cs) img) (logged .lawful .below) (made-some (writes cs) img) j lj;

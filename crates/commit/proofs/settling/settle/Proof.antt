@@ -17,13 +17,13 @@ use Rattle.layout.specs.Checks.{roomFor}
 use Rattle.commit.proofs.Lists.{settle-length}
 use Rattle.desk.proofs.Entered.{Entered, entered, homes-inside}
 use Rattle.layout.proofs.Stored.{stored-none, stored-run}
-use Rattle.commit.specs.Settle.{startAt}
+use Rattle.commit.specs.Settle.{startsFor, oldestReader}
 use Rattle.commit.proofs.SettleLaws.{settle-refused, settle-unpublished, settle-waits, settle-stores}
 use Rattle.commit.proofs.settling.settle.Statement.{statement}
 use Rattle.commit.proofs.settling.settle.Tie as tie
 
 abbrev Inv-loop : tie.InvT-loop
-Inv-loop image trace session desk sound n m fault i e end reader₀ t₀ reader t = (t ≤ 16) × (reader ≡ oldestOf (startAt desk end) t)
+Inv-loop image trace session desk sound n m fault i e end reader₀ t₀ reader t = (t ≤ 16) × (reader ≡ oldestOf (startsFor desk session) t)
 
 abbrev μ-loop : tie.MeasureT-loop
 μ-loop image trace session desk sound n m fault i e end reader₀ t₀ reader t = 16 - t
@@ -107,7 +107,7 @@ loop-less c = search needs
 
 loop-again : tie.Need-loop-again Inv-loop μ-loop
 unfolding oldestOf
-loop-again c = (search needs, c .older .ensures ∙ rw ((c .before) .start-below .ensures, (c .before .before .before .before) .loop .inv .1, add-one))
+loop-again c = (search needs, c .older .ensures ∙ rw ((c .before) .start-below .ensures, (c .before .before .before .before .before) .end-of .ensures, (c .before .before .before .before) .loop .inv .1, add-one))
 
 answers-requires-3 : tie.Need-answers-requires-3 Inv-loop μ-loop
 answers-requires-3 c κs = search needs
@@ -116,10 +116,11 @@ same-length-3 : tie.Need-same-length-3 Inv-loop μ-loop
 same-length-3 c = search needs
 
 returns-3 : tie.Need-returns-3 Inv-loop μ-loop
+unfolding oldestReader
 returns-3 c =
     let a = (c .before .before .before .before .before .before .before .before .before .before .before .before .before .before .before) .args in
     let e : (c .before .before .before .before) .loop .t ≡ 16 = omega (arith, (c .before .before .before .before) .loop .inv .0, (c .before .before .before) .loop-test .left) in
-    let g = settle-waits (a .image .now) (a .t2) (length (a .trace .now)) (a .session) (passed (c .before .before .before .before .before .before .before .before .before)) (sym ((c .before .before .before .before .before .before .before) .is-published .ensures) ∙ not-false _ ((c .before .before .before .before .before .before) .if2 .left)) ((c .before .before .before .before .before) .end-of .result) ((c .before .before .before .before .before) .end-of .ensures) ((c .before .before .before .before) .loop .reader) (rw e at ((c .before .before .before .before) .loop .inv .1)) ((c .before) .if3 .taken) in
+    let g = settle-waits (a .image .now) (a .t2) (length (a .trace .now)) (a .session) (passed (c .before .before .before .before .before .before .before .before .before)) (sym ((c .before .before .before .before .before .before .before) .is-published .ensures) ∙ not-false _ ((c .before .before .before .before .before .before) .if2 .left)) ((c .before .before .before .before) .loop .reader) (rw e at ((c .before .before .before .before) .loop .inv .1)) ((c .before) .if3 .taken) in
     settle-tells _ _ _ _ (c .answers3 .ensures ∙ sym (g .replies), stored-none _ _ _ (g .lists))
 
 put-homes-requires : tie.Need-put-homes-requires Inv-loop μ-loop
@@ -156,10 +157,11 @@ same-length-5 : tie.Need-same-length-5 Inv-loop μ-loop
 same-length-5 c = search needs
 
 returns-4 : tie.Need-returns-4 Inv-loop μ-loop
+unfolding oldestReader
 returns-4 c =
     let e : (c .before .before .before .before .before .before .before .before .before .before .before .before .before .before .before .before .before .before .before) .loop .t ≡ 16 = omega (arith, (c .before .before .before .before .before .before .before .before .before .before .before .before .before .before .before .before .before .before .before) .loop .inv .0, (c .before .before .before .before .before .before .before .before .before .before .before .before .before .before .before .before .before .before) .loop-test .left) in
     let a = (c .before .before .before .before .before .before .before .before .before .before .before .before .before .before .before .before .before .before .before .before .before .before .before .before .before .before .before .before .before .before) .args in
-    let g = settle-stores (a .image .now) (a .t2) (length (a .trace .now)) (a .session) (passed (c .before .before .before .before .before .before .before .before .before .before .before .before .before .before .before .before .before .before .before .before .before .before .before .before)) (sym ((c .before .before .before .before .before .before .before .before .before .before .before .before .before .before .before .before .before .before .before .before .before .before) .is-published .ensures) ∙ not-false _ ((c .before .before .before .before .before .before .before .before .before .before .before .before .before .before .before .before .before .before .before .before .before) .if2 .left)) ((c .before .before .before .before .before .before .before .before .before .before .before .before .before .before .before .before .before .before .before .before) .end-of .result) ((c .before .before .before .before .before .before .before .before .before .before .before .before .before .before .before .before .before .before .before .before) .end-of .ensures) ((c .before .before .before .before .before .before .before .before .before .before .before .before .before .before .before .before .before .before .before) .loop .reader) (rw e at ((c .before .before .before .before .before .before .before .before .before .before .before .before .before .before .before .before .before .before .before) .loop .inv .1)) ((c .before .before .before .before .before .before .before .before .before .before .before .before .before .before .before .before) .if3 .left) in
+    let g = settle-stores (a .image .now) (a .t2) (length (a .trace .now)) (a .session) (passed (c .before .before .before .before .before .before .before .before .before .before .before .before .before .before .before .before .before .before .before .before .before .before .before .before)) (sym ((c .before .before .before .before .before .before .before .before .before .before .before .before .before .before .before .before .before .before .before .before .before .before) .is-published .ensures) ∙ not-false _ ((c .before .before .before .before .before .before .before .before .before .before .before .before .before .before .before .before .before .before .before .before .before) .if2 .left)) ((c .before .before .before .before .before .before .before .before .before .before .before .before .before .before .before .before .before .before .before) .loop .reader) (rw e at ((c .before .before .before .before .before .before .before .before .before .before .before .before .before .before .before .before .before .before .before) .loop .inv .1)) ((c .before .before .before .before .before .before .before .before .before .before .before .before .before .before .before .before) .if3 .left) in
     settle-tells _ _ _ _ (
       c .answers4 .ensures ∙ rw ((c .before) .idle-session .ensures, (c .before .before) .unmark .ensures) (sym (g .replies)),
       stored-run _ (g .lists) (and-then ((c .before .before .before .before .before .before .before .before .before .before .before .before) .put-homes .ensures .0) (fenced ((c .before .before .before .before .before .before) .put-fence .ensures))) (omega (arith, settle-length (a .t2) (a .session), few (c .before .before .before .before .before .before .before .before .before .before .before .before .before .before .before .before .before .before .before .before .before .before .before .before), room (c .before .before .before .before .before .before .before .before .before .before .before .before .before .before .before .before .before .before .before .before .before .before .before .before))),
