@@ -7,14 +7,17 @@ what the call must answer and leave.
     python3 raw.py count SEED COUNT            cases by call and answer
     python3 raw.py show SEED CASE              one case in full, as text
 
-A case depends on the seed and its own number (from 0) alone.
+A case depends on the seed and its own number (from 0) alone. The cases of the
+reel library (document 02, Req 02) are made by rawreels.py, in the same format.
 
 INPUT. 64-bit words, lowest byte first, case after case up to the end of file:
     word  0       call: 0 lay, 1 begin, 2 read, 3 write, 4 finish, 5 publish,
-                  6 settle, 7 reclaim, 8 abandon, 9 open, 10 recover
+                  6 settle, 7 reclaim, 8 abandon, 9 open, 10 recover; of the reel
+                  library: 11 pack, 12 unpack, 13 read, 14 write, 15 length
     words 1, 2    N and M, for lay
     words 3, 4    session and record
-    words 5-8     the four words, for write
+    words 5-8     the four words, for write; shelf, carrier, speed and seconds,
+                  for 11 and 14; the record's words, for 12 and 15
     word  9       trace length in words, at most 64
     word  10      image length in words, at most 1800
     words 11-653  the desk, 643 words (below)
@@ -37,13 +40,16 @@ WANT. One line of text a case, 12 decimal fields parted by one space:
     digest of the image, digest of the trace, digest of the desk
 The answer is the refusal's number, or 20 ok, 21 start, 22 own, 23 copy,
 24 home, 25 empty, 26 sealed, 27 end, 28 wait, 29 none, 30 held, 31 cleared,
-32 clean, 33 replayed. The value goes with start, sealed, end, wait, held,
-cleared, replayed, 7 and 12, the four words with own, copy and home; unused
+32 clean, 33 replayed, 34 reel, 35 unused, 36 unknown, 37 metres. The value
+goes with start, sealed, end, wait, held, cleared, replayed, metres, 7 and 12;
+for 13 it is 22, 23 or 24 as the store read, with 34, 35, 15, 16 and 17, and 0
+where the store refused. The four words go with own, copy and home, with ok of
+11 (the words packed) and with reel (shelf, carrier, speed, seconds); unused
 fields are 0. Entries is their number; they stand at the front of the trace.
 The digests are of what the call leaves, refused or not; 0 where the call
 takes no such part (lay: image alone; begin, publish, abandon: desk alone;
-open: image and the desk it gives; read, write: image and desk; recover:
-image and trace).
+open: image and the desk it gives; read, write, 13, 14: image and desk;
+recover: image and trace; 11, 12, 15: none).
 
 DIGEST of k words: d = k at first, then for each word w, with its parts
 w % 2**32 and then w // 2**32:
@@ -58,37 +64,44 @@ import struct
 import sys
 from collections import Counter
 
+import reels
 import store
 from store import L
 
 TOP = 2 ** 64 - 1
 MOST = {"N": 256, "M": 16}
-CALLS = ["lay", "begin", "read", "write", "finish", "publish", "settle",
-         "reclaim", "abandon", "open", "recover"]
+STORE_CALLS = ["lay", "begin", "read", "write", "finish", "publish", "settle",
+               "reclaim", "abandon", "open", "recover"]
+REEL_CALLS = ["pack", "unpack", "read reel", "write reel", "length"]
+CALLS = STORE_CALLS + REEL_CALLS
 PHASES = ["idle", "active", "sealed", "published"]
 ANSWERS = ["ok", "start", "own", "copy", "home", "empty", "sealed", "end", "wait",
-           "none", "held", "cleared", "clean", "replayed"]
-WITH_DESK = CALLS[1:9]
-WITH_IMAGE = [c for c in CALLS if c not in ("begin", "publish", "abandon")]
+           "none", "held", "cleared", "clean", "replayed", "reel", "unused", "unknown", "metres"]
+# Of the store's calls; the reel library's read and write take what the store's take.
+WITH_DESK = STORE_CALLS[1:9]
+WITH_IMAGE = [c for c in STORE_CALLS if c not in ("begin", "publish", "abandon")]
 WITH_TRACE = ["finish", "settle", "reclaim", "recover"]
 WITH_RECORD = ["read", "write"]
 
 
 # ---- running and encoding a case -----------------------------------------
 
-def run(case):
-    """Makes the call of a case on the model."""
+def run(case, library=reels):
+    """Makes the call of a case on the model, the last five on this reel library."""
     call, image, desk, trace, session = (case[k] for k in ("call", "image", "desk", "trace", "session"))
+    model = library if call in REEL_CALLS else store
     if call == "lay":
         return store.lay(case["N"], case["M"], image)
     if call == "open":
         return store.open_image(image)
     if call == "recover":
         return store.recover(image, trace)
-    if call == "read":
-        return store.read(image, desk, session, case["record"])
-    if call == "write":
-        return store.write(image, desk, session, case["record"], case["words"])
+    if call in ("read", "read reel"):
+        return model.read(image, desk, session, case["record"])
+    if call in ("write", "write reel"):
+        return model.write(image, desk, session, case["record"], case["words"])
+    if call in REEL_CALLS:
+        return getattr(model, call)(case["words"])
     if call in WITH_TRACE:
         return getattr(store, call)(image, desk, trace, session)
     return getattr(store, call)(desk, session)
@@ -118,10 +131,17 @@ def trace_before(case):
     return [0xA5A5A5A500000000 + i for i in range(case["trace"])]
 
 
+def name_number(name):
+    return 20 + ANSWERS.index(name)
+
+
 def answer_number(answer):
-    if answer["name"] == "no":
-        return answer["number"]
-    return 20 + ANSWERS.index(answer["name"])
+    return answer["number"] if answer["name"] == "no" else name_number(answer["name"])
+
+
+def value_number(answer):
+    """The value; of a reel that was read it is own, copy or home."""
+    return name_number(answer["value"]) if answer["value"] in ANSWERS else answer["value"]
 
 
 def packed_word(word):
@@ -160,11 +180,11 @@ def want_line(number, case):
     done = run(case)
     call, answer = case["call"], done["answer"]
     trace = store.trace_after(trace_before(case), done["entries"])
-    fields = [number, CALLS.index(call), answer_number(answer), answer["value"]]
+    fields = [number, CALLS.index(call), answer_number(answer), value_number(answer)]
     fields += answer["words"] + [len(done["entries"])]
-    fields.append(digest(done["image"]) if call in WITH_IMAGE else 0)
+    fields.append(0 if done["image"] is None else digest(done["image"]))
     fields.append(digest(trace) if call in WITH_TRACE else 0)
-    fields.append(digest(desk_words(done["desk"])) if call in WITH_DESK + ["open"] else 0)
+    fields.append(0 if done["desk"] is None else digest(desk_words(done["desk"])))
     return " ".join(str(field) for field in fields)
 
 
@@ -732,14 +752,18 @@ def outcome(case):
     return answer["number"] or answer["name"]
 
 
+def spoiled(rng, case, aim):
+    """A session call with a cause for this one of the refusals 1 to 5, and at times for later ones."""
+    others = [k for k in causes(case["call"]) if k > aim and rng.random() < 0.3]
+    for number in sorted([aim] + others, reverse=True):  # 1 and 2 go last
+        spoil(rng, case, number)
+    return case
+
+
 def aimed(rng, call, aim):
     """A case of this call with this answer."""
     if call in WITH_DESK and aim in causes(call):
-        case = session_scene(rng, call)
-        others = [k for k in causes(call) if k > aim and rng.random() < 0.3]
-        for number in sorted([aim] + others, reverse=True):  # 1 and 2 go last
-            spoil(rng, case, number)
-        return case
+        return spoiled(rng, session_scene(rng, call), aim)
     while True:
         case = scene(rng, call, aim)
         if outcome(case) == aim:
@@ -845,9 +869,8 @@ def make(seed, number):
 
 # ---- the program ---------------------------------------------------------
 
-def show(seed, number):
+def show(case, number):
     """One case in full, as text."""
-    case, _ = make(seed, number)
     done = run(case)
     for name in ("call", "N", "M", "session", "record", "words", "trace"):
         print("%-8s %s" % (name, case[name]))
@@ -867,35 +890,38 @@ def show(seed, number):
     print("want %s" % want_line(number, case))
 
 
-def count(seed, cases):
+def title(answer):
+    """An answer's name or number as text, and own, copy or home where it has that."""
+    name = "no %2d" % answer["number"] if answer["name"] == "no" else answer["name"]
+    return "%s %s" % (name, answer["value"]) if answer["value"] in ANSWERS else name
+
+
+def count(cases):
     """How many cases there are by call and answer."""
-    seen = Counter()
-    for number in range(cases):
-        case, _ = make(seed, number)
-        got = outcome(case)
-        seen[case["call"], "no %2d" % got if isinstance(got, int) else got] += 1
+    seen = Counter((case["call"], title(run(case)["answer"])) for case in cases)
     for (call, got), times in sorted(seen.items()):
-        print("%7d %-8s %s" % (times, call, got))
+        print("%7d %-10s %s" % (times, call, got))
 
 
-def main(words):
+def main(words, make, usage, first=0):
+    """The commands of raw.py, and with other cases, numbered from first on, those of rawreels.py."""
     if len(words) != 3 or words[0] not in ("in", "packed", "want", "count", "show"):
-        sys.exit(__doc__)
-    seed, cases = int(words[1]), int(words[2])
+        sys.exit(usage)
+    seed, number = int(words[1]), int(words[2])
     if words[0] == "show":
-        return show(seed, cases)
+        return show(make(seed, number)[0], first + number)
+    cases = (make(seed, at)[0] for at in range(number))
     if words[0] == "count":
-        return count(seed, cases)
-    for number in range(cases):
-        case, _ = make(seed, number)
+        return count(cases)
+    for at, case in enumerate(cases, first):
         if words[0] == "in":
             out = case_words(case)
             sys.stdout.buffer.write(struct.pack("<%dQ" % len(out), *out))
         elif words[0] == "packed":
             sys.stdout.buffer.write(packed(case_words(case)))
         else:
-            print(want_line(number, case))
+            print(want_line(at, case))
 
 
 if __name__ == "__main__":
-    main(sys.argv[1:])
+    main(sys.argv[1:], make, __doc__)

@@ -15,13 +15,15 @@ HERE = os.path.dirname(os.path.abspath(__file__))
 sys.path.insert(0, HERE)
 
 import raw  # noqa: E402
+import rawreels  # noqa: E402
 import reelwalk  # noqa: E402
 import streams  # noqa: E402
 
 CRATES = os.path.join(HERE, "..", "crates")
 SEEDS = {kind: 14 for kind in streams.KINDS}
 SEEDS["long"] = 6
-RAW_SEED, RAW_CASES = 1, 3240
+RAW_SEED, RAW_CASES = 1, rawreels.FIRST  # cases of raw.py; behind them a round of the reel cases
+REEL_CASES = len(rawreels.TURNS)
 
 
 def schedule(kind_and_seed):
@@ -32,7 +34,10 @@ def schedule(kind_and_seed):
 
 def raw_case(number):
     """A raw case, packed, and the line that it must give."""
-    case, _ = raw.make(RAW_SEED, number)
+    if number < RAW_CASES:
+        case, _ = raw.make(RAW_SEED, number)
+    else:
+        case, _ = rawreels.make(RAW_SEED, number - RAW_CASES)
     return raw.packed(raw.case_words(case)), (raw.want_line(number, case) + "\n").encode()
 
 
@@ -40,7 +45,8 @@ def files():
     """Path and content of each file; the cases are made on all processors."""
     kinds = [(kind, seed) for kind, seeds in SEEDS.items() for seed in range(1, seeds + 1)]
     with multiprocessing.Pool() as pool:
-        for crate, make, cases in (("schedules", schedule, kinds), ("rawcases", raw_case, range(RAW_CASES))):
+        for crate, make, cases in (("schedules", schedule, kinds),
+                                   ("rawcases", raw_case, range(RAW_CASES + REEL_CASES))):
             made = pool.map(make, cases, chunksize=1 if crate == "schedules" else 8)
             for i, name in enumerate(("stdin", "stdout")):
                 yield os.path.join(CRATES, crate, name), b"".join(part[i] for part in made)

@@ -5,12 +5,17 @@
                                            which tests catch each of them
 """
 
+import fractions
+import functools
+import itertools
 import os
 import random
 import sys
 import types
 
 import raw
+import rawreels
+import reels
 import reelwalk
 import store
 import streams
@@ -19,6 +24,7 @@ HERE = os.path.dirname(os.path.abspath(__file__))
 TOP = 2 ** 64 - 1
 L = 2 ** 62
 FENCE = (TOP, 0)
+ZEROS = [0] * 4
 SHARE = 1.0  # share of the full number of random runs
 
 
@@ -602,15 +608,16 @@ def recovered(st, trial, rng, run):
 def case_read(words):
     """A case read back from its input words, and the words left over."""
     call, desk, at = raw.CALLS[words[0]], words[11:654], 654 + words[10]
+    through = call in ("read reel", "write reel")  # these take what the store's take
     entries = [desk[259 + 24 * s:283 + 24 * s] for s in range(16)]
     sessions = [{"phase": raw.PHASES[e[0]], "number": e[1], "count": e[2], "slot": e[3],
                  "places": [[e[i], e[i + 1:i + 5]] for i in range(4, 24, 5)]} for e in entries]
     case = {"call": call, "N": words[1], "M": words[2], "session": words[3], "record": words[4],
             "words": words[5:9], "trace": words[9],
-            "image": words[654:at] if call in raw.WITH_IMAGE else None,
+            "image": words[654:at] if through or call in raw.WITH_IMAGE else None,
             "desk": {"clock": desk[0], "N": desk[1], "M": desk[2],
                      "marks": [mark - 1 if mark else None for mark in desk[3:259]],
-                     "sessions": sessions} if call in raw.WITH_DESK else None}
+                     "sessions": sessions} if through or call in raw.WITH_DESK else None}
     return case, words[at:]
 
 
@@ -628,17 +635,32 @@ def unpacked(data):
     return words
 
 
+def check_format(case, what):
+    """A case reads back from its words and keeps to the stated bounds."""
+    words = raw.case_words(case)
+    same(case_read(words), (case, []), what + " read back")
+    same(unpacked(raw.packed(words)), words, what + " unpacked")
+    if max(words) > TOP or max(words[14:270]) > 255 \
+            or len(case["image"] or []) > 1800 or case["trace"] > 64:
+        raise AssertionError(what + " out of the stated bounds")
+
+
+def made_unaltered(case, library=reels):
+    """What the call of a case gives; it alters nothing that it is given."""
+    before = raw.case_words(case)
+    done = raw.run(case, library)
+    same(raw.case_words(case), before, "a call altered its input")
+    return done
+
+
 def raw_cases(st):
     """Each raw case meets its aim; refusals leave all; every answer occurs."""
     seen, cases = set(), 4 * len(raw.TURNS)
     for number in range(cases):
         case, (call, aim) = raw.make(5, number)
-        before = raw.case_words(case)
-        done = raw.run(case)
-        same(raw.case_words(case), before, "a call altered its input")
-        same(case_read(before), (case, []), "raw case %d read back" % number)
-        same(unpacked(raw.packed(before)), before, "raw case %d unpacked" % number)
-        got = done["answer"]["number"] or done["answer"]["name"]
+        check_format(case, "raw case %d" % number)
+        done = made_unaltered(case)
+        got = answer_of(done)[0]
         seen.add((case["call"], got))
         if call is not None:
             same(case["call"], call, "call of raw case %d" % number)
@@ -649,9 +671,6 @@ def raw_cases(st):
             same(done["image"], case["image"], "image of a refusal")
             if case["call"] != "open":
                 same(done["desk"], case["desk"], "desk of a refusal")
-        if max(before) > TOP or max(before[14:270]) > 255 \
-                or len(case["image"] or []) > 1800 or case["trace"] > 64:
-            raise AssertionError("raw case %d out of the stated bounds" % number)
     wanted = {(call, aim) for call in raw.AIMS for aim in raw.AIMS[call]}
     same(sorted(map(str, wanted - seen)), [], "answers that no raw case has")
     return "%d cases, %d pairs of call and answer" % (cases, len(seen))
@@ -675,14 +694,222 @@ def stream_kinds(st):
     return "%d lines, %d different results" % (sum(steps.values()), len(seen))
 
 
-BY_MODEL = [whole_case, edges, program_lines, answers, reads, crashes]
-ALL = BY_MODEL + [raw_cases, stream_kinds]
+# ---- tests of the reel library -------------------------------------------
+
+GOOD_REELS = [[1, 1, 0, 0], [999999, 1, 5, 359999], [5, 1, 1, 1], [5, 1, 2, 60], [70000, 1, 3, 3600],
+              [5, 1, 4, 2 ** 16], [5, 2, 0, 0], [999999, 2, 1, 359999], [1, 3, 0, 0], [5, 3, 0, 359999]]
+# By refusal, words that it names: at the edge, far out of range, with more than one of them bad.
+BAD_REELS = {
+    15: [[0, 1, 3, 60], [1000000, 1, 3, 60],
+         [2 ** 32, 1, 3, 60], [2 ** 32 + 5, 1, 3, 60], [2 ** 63, 1, 3, 60], [TOP, 1, 3, 60],
+         [0, 4, 3, 60], [0, 2, 2, 60], [0, 1, 6, 60], [0, 1, 3, 360000], [1000000, 3, 1, 360000],
+         [TOP] * 4, [0, 1, 0, 0], [0, 0, 1, 0], [0, 0, 0, 1], [0, TOP, 0, 0], [0, 0, 2 ** 32, 0],
+         [0, 2 ** 63, 0, 2 ** 63]],
+    16: [[5, 0, 0, 60], [5, 4, 0, 60], [5, 1, 6, 60], [5, 2, 2, 60], [5, 2, 5, 60], [5, 3, 1, 60],
+         [5, 3, 5, 60], [5, 257, 0, 60], [5, 2 ** 32 + 1, 0, 60], [5, TOP, 0, 60], [5, 1, 256, 60],
+         [5, 3, 2 ** 32, 60], [5, 1, 2 ** 32 + 3, 60], [5, 1, 2 ** 63, 60], [5, 2, TOP, 60],
+         [5, 0, 0, 360000], [5, 2, 2, 360000], [5, 1, 6, TOP], [5, 0, 0, 0]],
+    17: [[5, 1, 3, 360000], [5, 2, 1, 360000], [5, 3, 0, 360000],
+         [5, 1, 3, 2 ** 32], [5, 1, 3, 2 ** 32 + 5], [5, 1, 3, 2 ** 63], [5, 1, 3, TOP]],
+}
+
+
+def told(done):
+    """Name or refusal number, value and words."""
+    return (*answer_of(done), done["answer"]["words"])
+
+
+def reel_numbers(lib):
+    """Pack and unpack: reels by hand; carriers with codes, at the edges of the other two."""
+    for reel in GOOD_REELS:
+        same(told(lib.pack(reel)), ("ok", 0, reel), "pack %s" % reel)
+        same(told(lib.unpack(reel)), ("reel", 0, reel), "unpack %s" % reel)
+    for number, bad in BAD_REELS.items():
+        for reel in bad:
+            for call in (lib.pack, lib.unpack, lib.length):
+                same(told(call(reel)), (number, 0, ZEROS), "%s %s" % (call.__name__, reel))
+    same(told(lib.unpack(ZEROS)), ("unused", 0, ZEROS), "unused, read as such")
+    same(told(lib.pack(ZEROS)), (15, 0, ZEROS), "unused, not written")
+    taken = {(1, code) for code in range(6)} | {(2, 0), (2, 1), (3, 0)}
+    for shelf, carrier, code, seconds in itertools.product(
+            (0, 1, 999999, 1000000), range(6), range(8), (0, 359999, 360000)):
+        reel = [shelf, carrier, code, seconds]
+        rights = {15: shelf in (1, 999999), 16: (carrier, code) in taken, 17: seconds < 360000}
+        bad = [number for number, right in rights.items() if not right]
+        same(answer_of(lib.pack(reel)), (bad[0] if bad else "ok", 0), "pack %s" % reel)
+        if reel != ZEROS:
+            same(answer_of(lib.unpack(reel)), (bad[0] if bad else "reel", 0), "unpack %s" % reel)
+
+
+# By code: seconds and metres.
+METRES = {1: [(0, 0), (21, 0), (22, 1), (2499, 118), (2500, 119), (359999, 17135)],
+          2: [(0, 0), (10, 0), (11, 1), (9999, 952), (10000, 953), (359999, 34307)],
+          3: [(0, 0), (5, 0), (6, 1), (1999, 380), (2000, 381), (3600, 685), (359999, 68579)],
+          4: [(0, 0), (2, 0), (3, 1), (999, 380), (1000, 381), (359999, 137159)],
+          5: [(0, 0), (1, 0), (2, 1), (499, 380), (500, 381), (359999, 274319)]}
+
+
+def reel_lengths(lib):
+    """Lengths by hand: rounded down; 0 s is 0 metres; unknown with code 0 alone."""
+    for code, lengths in METRES.items():
+        for seconds, metres in lengths:
+            what = "%d s at code %d" % (seconds, code)
+            same(told(lib.length([5, 1, code, seconds])), ("metres", metres, ZEROS), what)
+    same(told(lib.length([5, 2, 1, 2500])), ("metres", 119, ZEROS), "cassette")
+    for words in ([5, 1, 0, 3600], [5, 2, 0, 60], [5, 3, 0, 359999], [5, 1, 0, 0], ZEROS):
+        same(told(lib.length(words)), ("unknown", 0, ZEROS), "length of %s" % words)
+
+
+def reel_scene(own=ZEROS, copy=ZEROS, home=ZEROS):
+    """Image and desk with these words: session 0 is active and copies record 0, session 1 is published
+    and copies record 1, which session 0 is shown; records 2 to 4 have no copy. Home is record 2."""
+    desk = store.new_desk(6, 5, 2)
+    desk["sessions"][0] = store.entry("active", 6, [[0, own]])
+    desk["sessions"][1] = store.entry("published", 5, [[1, copy]], 1)
+    desk["marks"][:2] = [0, 1]
+    image = laid(store, 5, 2)
+    image[12:16] = home
+    return image, desk
+
+
+REEL_PLACES = {"own": 0, "copy": 1, "home": 2}  # which record of the scene is where
+
+
+def reel_reads(lib):
+    """Read: reel, unused and bad words from each place; the store's refusals come first."""
+    cases = [("reel", reel, reel) for reel in GOOD_REELS] + [("unused", ZEROS, ZEROS)]
+    cases += [(number, words, ZEROS) for number, bad in BAD_REELS.items() for words in bad]
+    for name, record in REEL_PLACES.items():
+        for wanted, words, reel in cases:
+            image, desk = reel_scene(**{name: words})
+            done = lib.read(image, desk, 0, record)
+            same(told(done), (wanted, name, reel), "%s read from %s" % (words, name))
+            same((done["desk"], done["image"], done["entries"]), (desk, image, []), "read leaves all")
+    for words in [ZEROS, GOOD_REELS[0]] + [bad[0] for bad in BAD_REELS.values()]:
+        image, desk = reel_scene(words, words, words)
+        image[4:12] = words * 2
+        for scene, number in (
+                ((image[:-1], desk, 0, 0), 1), ((image, dict(desk, clock=0), 0, 2), 2),
+                ((image, desk, 2, 0), 4), ((image, desk, TOP, TOP), 4), ((image, desk, 0, 5), 5),
+                ((image, desk, 1, 2), 6), ((image, desk, 1, 1), 6)):
+            done = lib.read(*scene)
+            same(told(done), (number, 0, ZEROS), "refused by the store, words %s" % words)
+            same((done["image"], done["desk"]), scene[:2], "refused by the store")
+
+
+def write_scenes():
+    """Image, desk, session and record of a write, and the answer and value of the store."""
+    image, desk = reel_scene()
+    yield (image, desk, 0, 0), ("ok", 0)  # an own copy
+    yield (image, desk, 0, 3), ("ok", 0)  # a further one
+    fresh = store.begin(store.new_desk(1, 5, 2), 1)["desk"]
+    yield (image, fresh, 1, 4), ("ok", 0)  # a first one
+    yield (slot_put(store, image, 2, 1, [0]), fresh, 1, 4), ("ok", 0)
+    yield (image[:-1], desk, 0, 0), (1, 0)
+    yield (image, dict(desk, N=4), 0, 0), (2, 0)
+    yield (image, desk, 2, 0), (4, 0)
+    yield (image, desk, 0, 5), (5, 0)
+    yield (image, desk, 1, 1), (6, 0)
+    yield (image, desk, 0, 1), (7, 1)  # session 1 holds it
+    four = store.new_desk(1, 5, 2)
+    four["sessions"][0] = store.entry("active", 1, [[record, ZEROS] for record in range(4)])
+    four["marks"][:4] = [0] * 4
+    yield (image, four, 0, 4), (8, 0)
+    yield (slot_put(store, slot_put(store, image, 2, 1, [0]), 3, 2, [0]), fresh, 1, 4), (9, 0)
+
+
+def reel_writes(lib):
+    """Write: 15, 16 and 17 before any check of the store and all left; then as the store writes."""
+    for scene, wanted in write_scenes():
+        image, desk, session, record = scene
+        for reel in GOOD_REELS:
+            done = lib.write(*scene, reel)
+            same(told(done), (*wanted, ZEROS), "write of %s" % reel)
+            same(done, store.write(*scene, reel), "as the store writes")
+            if wanted[0] == "ok":
+                again = lib.read(image, done["desk"], session, record)
+                same(told(again), ("reel", "own", reel), "read again")
+        for number, bad in [*BAD_REELS.items(), (15, [ZEROS])]:
+            for reel in bad:
+                done = lib.write(*scene, reel)
+                same(told(done), (number, 0, ZEROS), "write of %s" % reel)
+                same((done["desk"], done["image"], done["entries"]), (desk, image, []), "all left")
+
+
+@functools.lru_cache(maxsize=None)
+def reel_round():
+    """A round of the reel cases, each with its aim."""
+    return [rawreels.make(5, number) for number in range(len(rawreels.TURNS))]
+
+
+def store_did(case):
+    """What the store's call gives for a read or write of a reel."""
+    return raw.run(dict(case, call=case["call"].split()[0]))
+
+
+def told_wanted(case, aim, where):
+    """Answer, value and words that a reel case must give, found without the reel library."""
+    call, value, words = case["call"], where or 0, ZEROS
+    if aim == "reel" or (call, aim) == ("pack", "ok"):
+        words = store_did(case)["answer"]["words"] if call == "read reel" else case["words"]
+    if aim == 7:
+        value = case["desk"]["marks"][case["record"]]
+    if aim == "metres":
+        _, _, code, seconds = case["words"]
+        speed = fractions.Fraction(["47.6", "95.3", "190.5", "381", "762"][code - 1])  # millimetres
+        value = int(seconds * speed / 1000)
+    return aim, value, words
+
+
+def reel_cases(lib):
+    """Each reel case meets its aim and leaves what it must; none alters its input."""
+    for number, (case, (call, aim, where)) in enumerate(reel_round()):
+        what = "reel case %d, %s" % (number, call)
+        done = made_unaltered(case, lib)
+        same(case["call"], call, what)
+        same(told(done), told_wanted(case, aim, where), what)
+        written = call == "write reel" and aim in ("ok", 7)
+        desk = store_did(case)["desk"] if written else case["desk"]
+        same((done["desk"], done["image"], done["entries"]), (desk, case["image"], []), "left by " + what)
+    return "%d cases" % len(reel_round())
+
+
+def reel_aims(lib):
+    """The reel cases have the stated form; every answer and every edge occurs with each call."""
+    seen, numbers = set(), {call: [set() for _ in range(5)] for call in raw.REEL_CALLS}
+    for number, (case, (call, aim, where)) in enumerate(reel_round()):
+        check_format(case, "reel case %d" % number)
+        seen.add((call, aim, where))
+        if call != "read reel" or where:
+            words = store_did(case)["answer"]["words"] if where else case["words"]
+            for found, part in zip(numbers[call], [*words, tuple(words[1:3])]):
+                found.add(part)
+    bad = [15, 16, 17]
+    wanted = {(call, aim, None) for call, aims in (
+        ("pack", ["ok"] + bad), ("unpack", ["reel", "unused"] + bad),
+        ("length", ["metres", "unknown"] + bad), ("read reel", [1, 2, 4, 5, 6]),
+        ("write reel", ["ok", 1, 2, 4, 5, 6, 7, 8, 9] + bad)) for aim in aims}
+    wanted |= {("read reel", aim, where) for aim in ["reel", "unused"] + bad for where in REEL_PLACES}
+    same(seen, wanted, "answers of the reel cases")
+    huge = {2 ** 32, 2 ** 32 + 5, 2 ** 63, TOP}
+    needed = [{0, 1, 999999, 1000000} | huge, {0, 1, 2, 3, 4, TOP}, {0, 1, 2, 3, 4, 5, 6, TOP},
+              {0, 1, 359999, 360000} | huge, set(itertools.product((1, 2, 3), range(7)))]
+    for call, found in numbers.items():
+        missing = [part - has for part, has in zip(needed, found)]
+        same(missing, [set()] * 5, "numbers that no %s has" % call)
+    return "%d answers" % len(seen)
+
+
+BY_STORE = [whole_case, edges, program_lines, answers, reads, crashes]
+BY_REELS = [reel_numbers, reel_lengths, reel_reads, reel_writes, reel_cases]
+ALL = [(test, store) for test in BY_STORE + [raw_cases, stream_kinds]]
+ALL += [(test, reels) for test in BY_REELS + [reel_aims]]
 
 
 # ---- faulty copies -------------------------------------------------------
 # name, text in store.py, text in its place
 
-FAULTS = [
+STORE_FAULTS = [
     ("persist number stored in the body's fence group",
      "[FENCE, (at, number), FENCE]", "[(at, number), FENCE]"),
     ("settle without waiting", "if in_the_way:", "if False:"),
@@ -748,10 +975,81 @@ FAULTS = [
      "if not coherent(desk, image):\n        return no(2)", "if True:\n        return no(2)"),
 ]
 
+# The same, of reels.py.
+REEL_FAULTS = [
+    ("a cassette takes code 2", "return 0 <= speed <= 1", "return 0 <= speed <= 2"),
+    ("a cassette takes code 0 alone", "return 0 <= speed <= 1", "return speed == 0"),
+    ("a disc takes code 1", "return speed == 0", "return speed <= 1"),
+    ("an open reel takes code 6", "return 0 <= speed <= 5", "return 0 <= speed <= 6"),
+    ("an open reel needs a speed", "return 0 <= speed <= 5", "return 1 <= speed <= 5"),
+    ("a fourth carrier", "if carrier == 3:", "if carrier in (3, 4):"),
+    ("carrier 0 with code 0", "if carrier == 3:", "if carrier in (0, 3):"),
+    ("shelf number 1,000,000", "shelf <= 999999", "shelf <= 1000000"),
+    ("shelf number 0", "1 <= shelf", "0 <= shelf"),
+    ("360,000 seconds", "seconds <= 359999", "seconds <= 360000"),
+    ("0 seconds refused", "0 <= seconds", "1 <= seconds"),
+    ("the low 32 bits of the shelf number alone",
+     "1 <= shelf <=", "1 <= shelf % 2 ** 32 <="),
+    ("the low 32 bits of the seconds alone",
+     "0 <= seconds <=", "0 <= seconds % 2 ** 32 <="),
+    ("the low byte of the carrier alone", "if carrier == 1:", "if carrier % 256 == 1:"),
+    ("16 before 15", "if not shelf_right(shelf):",
+     "if not shelf_right(shelf) and speed_right(carrier, speed):"),
+    ("17 before 16", "if not speed_right(carrier, speed):",
+     "if not speed_right(carrier, speed) and seconds_right(seconds):"),
+    ("17 before 15", "if not shelf_right(shelf):",
+     "if not shelf_right(shelf) and seconds_right(seconds):"),
+    ("unused written", "number = bad_number(*reel)",
+     "number = bad_number(*reel) if reel != UNUSED else 0"),
+    ("shelf number 0 taken as unused", "if words == UNUSED:", "if words[0] == 0:"),
+    ("words 0 and 1 at 0 taken as unused", "if words == UNUSED:", "if words[:2] == [0, 0]:"),
+    ("words that add up to 0 taken as unused", "if words == UNUSED:", "if sum(words) % 2 ** 64 == 0:"),
+    ("unused read as 15", "if words == UNUSED:", "if False:"),
+    ("reading checks the reel before the store's checks",
+     "    done = store.read(image, desk, session, record)\n",
+     "    done = store.read(image, desk, session, record)\n"
+     "    first = meaning((image[4 + 4 * record:8 + 4 * record] + UNUSED)[:4])\n"
+     "    if done[\"answer\"][\"name\"] == \"no\" and first[\"name\"] == \"no\":\n"
+     "        return dict(done, answer=first)\n"),
+    ("reading always the home record",
+     "meaning(answer[\"words\"], answer[\"name\"])",
+     "meaning(image[4 + 4 * record:8 + 4 * record], answer[\"name\"])"),
+    ("a bad record in an own copy not refused",
+     "meaning(answer[\"words\"], answer[\"name\"])",
+     "meaning(answer[\"words\"], answer[\"name\"])\n"
+     "                if answer[\"name\"] != \"own\" else store.said(\"reel\", \"own\", answer[\"words\"])"),
+    ("a bad record read as unused",
+     "return store.no(number, where)", "return store.said(\"unused\", where)"),
+    ("a bad record without own, copy or home",
+     "return store.no(number, where)", "return store.no(number)"),
+    ("writing makes the store's checks first",
+     "    answer = pack(reel)[\"answer\"]\n    if answer[\"name\"] == \"no\":",
+     "    answer = pack(reel)[\"answer\"]\n    done = store.write(image, desk, session, record, reel)\n"
+     "    if answer[\"name\"] == \"no\" and done[\"answer\"][\"name\"] == \"ok\":"),
+    ("a bad reel written", "return store.result(answer, desk, image)",
+     "return dict(store.write(image, desk, session, record, reel), answer=answer)"),
+    ("writing zeros", "session, record, answer[\"words\"])", "session, record, UNUSED)"),
+    ("one wrong speed", "1905", "1950"),
+    ("the speeds a code too low", "[None, 476,", "[None, 0, 476,"),
+    ("lengths rounded up", "// 10000", "// -10000 * -1"),
+    ("lengths rounded to the nearest metre", "seconds * SPEEDS[speed]", "(seconds * SPEEDS[speed] + 5000)"),
+    ("0 seconds are of unknown length", "if speed == 0:", "if speed == 0 or seconds == 0:"),
+    ("code 0 has length 0", "return store.result(store.said(\"unknown\"))",
+     "return store.result(store.said(\"metres\"))"),
+    ("the length of an unused record is refused",
+     "answer = meaning(words)\n", "answer = meaning(words) if words != UNUSED else store.no(15)\n"),
+    ("the length of a bad record is unknown",
+     "    if answer[\"name\"] == \"no\":\n        return store.result(answer)\n",
+     "    if answer[\"name\"] == \"no\":\n        return store.result(store.said(\"unknown\"))\n"),
+]
 
-def faulty(old, new):
-    """A copy of the model with one place of its text exchanged."""
-    with open(os.path.join(HERE, "store.py")) as file:
+# File, its module, the tests that are run on copies of it, and the faults.
+PLANTED = [("store.py", store, BY_STORE, STORE_FAULTS), ("reels.py", reels, BY_REELS, REEL_FAULTS)]
+
+
+def faulty(name, old, new):
+    """A copy of one file of the model with one place of its text exchanged."""
+    with open(os.path.join(HERE, name)) as file:
         text = file.read()
     same(text.count(old), 1, "places of %r" % old)
     module = types.ModuleType("faulty")
@@ -759,34 +1057,39 @@ def faulty(old, new):
     return module
 
 
-def outcome(test, st):
+def outcome(test, model):
     """(passed, remark) of one test."""
     try:
-        return True, test(st) or ""
+        return True, test(model) or ""
     except Exception as error:
         return False, "%s: %s" % (type(error).__name__, str(error)[:150])
 
 
 def run_all():
     good = True
-    for test in ALL:
-        passed, remark = outcome(test, store)
+    for test, model in ALL:
+        passed, remark = outcome(test, model)
         good = good and passed
         print("%-14s %s %s" % (test.__name__, "ok" if passed else "FAILED", remark), flush=True)
     print("all ok" if good else "FAILED")
     return good
 
 
+def catching(tests, model):
+    """The names of the tests that a model fails."""
+    return [test.__name__ for test in tests if not outcome(test, model)[0]]
+
+
 def run_faults():
     global SHARE
-    SHARE, missed = 0.3, 0
-    same([test.__name__ for test in BY_MODEL if not outcome(test, store)[0]], [], "no fault")
-    for name, old, new in FAULTS:
-        model = faulty(old, new)
-        caught = [test.__name__ for test in BY_MODEL if not outcome(test, model)[0]]
-        missed += not caught
-        print("%-62s %s" % (name, ", ".join(caught) or "NOT CAUGHT"), flush=True)
-    print("%d faults, %d not caught" % (len(FAULTS), missed))
+    SHARE, planted, missed = 0.3, 0, 0
+    for file, model, tests, faults in PLANTED:
+        same(catching(tests, model), [], "no fault in " + file)
+        for name, old, new in faults:
+            caught = catching(tests, faulty(file, old, new))
+            planted, missed = planted + 1, missed + (not caught)
+            print("%-62s %s" % (name, ", ".join(caught) or "NOT CAUGHT"), flush=True)
+    print("%d faults, %d not caught" % (planted, missed))
     return missed == 0
 
 

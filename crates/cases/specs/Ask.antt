@@ -24,15 +24,12 @@ use Rattle.recovery.specs.Told.{openTold, recoverTold}
 use Rattle.codec.specs.declared.step.Step.{Step}
 use Rattle.codec.specs.declared.step.Step.the-variants.{Lay as LayStep, Begin, Read, Write, Finish, Publish, Settle, Reclaim, Abandon, Cut}
 use Rattle.steps.specs.Apply.{appliedOf, appliedEntries}
-use Rattle.cases.specs.Coded.{coded, codedOf}
+use Rattle.cases.specs.Coded.{coded, codedOf, answeredOf}
+use Rattle.cases.specs.AskReel.{reelAnswered}
 use Rattle.cases.specs.declared.told.Coded.{Coded}
 use Rattle.cases.specs.declared.asking.Request.{Request}
-use Rattle.cases.specs.declared.asking.Request.the-variants.{Lay, Open, Recover, Session}
+use Rattle.cases.specs.declared.asking.Request.the-variants.{Lay, Open, Recover, Session, Reel}
 use Rattle.cases.specs.declared.asking.Answered.{Answered}
-
--- an answer as numbers, with words, a number of entries and a desk
-abbrev pub answeredOf : Coded → List ℕ → ℕ → Desk → Answered
-answeredOf t ws n d = record { answer = t .answer; value = t .value; words = ws; entries = n; desk = d }
 
 -- lay leaves no desk: it is the one that was given
 abbrev pub layAnswered : List ℕ → Desk → ℕ → ℕ → Answered
@@ -88,6 +85,7 @@ askedOf img d len (Lay n m) ws = layAnswered img d n m
 askedOf img d len Open ws = openAnswered img
 askedOf img d len Recover ws = recoverAnswered img d len
 askedOf img d len (Session step) ws = stepAnswered img d len step ws
+askedOf img d len (Reel call) ws = reelAnswered img d call ws
 
 -- the image that it leaves
 unfoldable pub askedImage : List ℕ → Desk → ℕ → Request → List ℕ
@@ -95,6 +93,7 @@ askedImage img d len (Lay n m) = laidImage n m img
 askedImage img d len Open = img
 askedImage img d len Recover = recoverImage img len
 askedImage img d len (Session step) = stepImage img d len step
+askedImage img d len (Reel call) = img
 
 -- the trace that it leaves
 unfoldable pub askedTrace : List ℕ → Desk → List ℕ → Request → List ℕ
@@ -102,3 +101,4 @@ askedTrace img d trace (Lay n m) = trace
 askedTrace img d trace Open = trace
 askedTrace img d trace Recover = recoverTrace img trace
 askedTrace img d trace (Session step) = stepTrace img d trace step
+askedTrace img d trace (Reel call) = trace

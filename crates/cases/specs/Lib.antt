@@ -1,4 +1,5 @@
 pub mod Digest
 pub mod Words
 pub mod Coded
+pub mod AskReel
 pub mod Ask

@@ -2,8 +2,11 @@
 ghost use mathlib.Core.Path.{_≡_};
 ghost use lib.ListN.{length};
 ghost use Rattle.layout.specs.Lay.{laidImage};
-ghost use Rattle.cases.specs.Ask.{answeredOf, layAnswered, openAnswered, recoverAnswered, stepAnswered};
+ghost use Rattle.cases.specs.Ask.{layAnswered, openAnswered, recoverAnswered, stepAnswered};
 ghost use Rattle.cases.specs.Ask.{recoverImage, recoverTrace, stepImage, stepTrace, askedOf, askedImage, askedTrace};
+ghost use Rattle.cases.specs.Coded.{answeredOf};
+use crate::reel_asking::ReelRequest;
+use crate::reel_asking::ask_reel;
 use crate::told::Coded;
 use crate::told::lay_told;
 use crate::told::open_told;
@@ -12,12 +15,14 @@ use crate::told::recover_told;
 use codec::Step;
 use store::Desk;
 
-// A call and its arguments but the desk, the image and the trace: lay with N and M, open, recover, or the session call of a step.
+// A call and its arguments but the desk, the image and the trace: lay with N and M, open, recover, the session call of a step, or a call of
+// the reel library.
 pub enum Request {
     Lay(u64, u64),
     Open,
     Recover,
     Session(Step),
+    Reel(ReelRequest),
 }
 
 // What a call answered: zeros where it has no value, words or entries; the desk that was given where it leaves none.
@@ -29,7 +34,7 @@ pub struct Answered {
     pub desk: Desk,
 }
 
-fn gives(t: Coded, words: [u64; 4], entries: u64, desk: Desk) -> Answered
+pub fn gives(t: Coded, words: [u64; 4], entries: u64, desk: Desk) -> Answered
     ensures { λ r. ⌜ r ≡ answeredOf t words entries desk ⌝ }
 {
     Answered {
@@ -86,7 +91,7 @@ fn ask_step(
     gives(outcome_told(o), read, r.entries, d)
 }
 
-// Makes the call of a request; `words` are those of a write.
+// Makes the call of a request; `words` are those of a write, or of a record or the numbers of a reel.
 pub fn ask(
     image: &mut [u64],
     desk: Desk,
@@ -103,5 +108,6 @@ pub fn ask(
         Request::Open => ask_open(image),
         Request::Recover => ask_recover(image, desk, trace),
         Request::Session(step) => ask_step(image, desk, trace, step, words),
+        Request::Reel(r) => ask_reel(image, desk, r, words),
     }
 }

@@ -15,7 +15,7 @@ pub struct Coded {
     pub value: u64,
 }
 
-fn answers(answer: u64, value: u64) -> Coded
+pub fn answers(answer: u64, value: u64) -> Coded
     ensures { λ r. ⌜ r ≡ coded answer value ⌝ }
 {
     Coded {

@@ -26,3 +26,4 @@ pub mod Refusals
 pub mod Demands
 pub mod Lives
 pub mod Impostors
+pub mod ReelsBack

@@ -7,3 +7,4 @@ pub mod Lives
 pub mod Refusals
 pub mod Lists
 pub mod Impostors
+pub mod ReelsBack

@@ -4,6 +4,7 @@ ghost use mathlib.Core.Path.{_≡_};
 ghost use lib.ListN.{length};
 use crate::input::within;
 use cases::Answered;
+use cases::ReelRequest;
 use cases::Request;
 use codec::Step;
 
@@ -20,8 +21,21 @@ fn step_of(call: u64, session: u64, rec: u64) -> Step {
     }
 }
 
+fn reel_request_of(call: u64, session: u64, rec: u64) -> ReelRequest {
+    match call {
+        11 => ReelRequest::Pack,
+        12 => ReelRequest::Unpack,
+        13 => ReelRequest::Read(session, rec),
+        14 => ReelRequest::Write(session, rec),
+        _ => ReelRequest::Length,
+    }
+}
+
 fn request_of(words: [u64; 2454]) -> Request {
     let call = words[0];
+    if 10 < call {
+        return Request::Reel(reel_request_of(call, words[3], words[4]));
+    }
     match call {
         0 => Request::Lay(words[1], words[2]),
         9 => Request::Open,
@@ -81,9 +95,10 @@ pub fn fields(mut words: [u64; 2454]) -> [u64; 11] {
     let call = words[0];
     let got = r.words;
     let left = r.desk;
-    let image = (call != 1) & (call != 5) & (call != 8);
+    let words_alone = (call == 11) | (call == 12) | (call == 15);
+    let image = (call != 1) & (call != 5) & (call != 8) & !words_alone;
     let entries = (call == 4) | (call == 6) | (call == 7) | (call == 10);
-    let desk = (call != 0) & (call != 10);
+    let desk = (call != 0) & (call != 10) & !words_alone;
     let a = shown(image, image_digest(words));
     let b = shown(entries, trace_digest(trace, words[9]));
     let c = shown(desk, cases::desk_digest(left));

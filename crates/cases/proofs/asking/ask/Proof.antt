@@ -27,6 +27,12 @@ enum-known-request-2 c = search needs
 ask-step-requires : tie.Need-ask-step-requires
 ask-step-requires c κs = search needs
 
+enum-known-request-3 : tie.Need-enum-known-request-3
+enum-known-request-3 c = search needs
+
+ask-reel-requires : tie.Need-ask-reel-requires
+ask-reel-requires c κs = search needs
+
 same-length : tie.Need-same-length
 same-length c = search needs
 
@@ -61,6 +67,13 @@ returns-4 : tie.Need-returns-4
 unfolding askedOf askedImage askedTrace
 returns-4 c = let e = (c .before .before .before .before .before .before .before .before) .request2 .given .1 in let w = (c .before .before .before .before) .ask-step .ensures in (rw e (w .0), (rw e (w .1 .0), rw e (w .1 .1)))
 
+same-length-7 : tie.Need-same-length-7
+same-length-7 c = search needs
+
+returns-5 : tie.Need-returns-5
+unfolding askedOf askedImage askedTrace
+returns-5 c = let e = (c .before .before .before) .request3 .given .1 in (rw (c .ask-reel .ensures, e), (rw e, rw e))
+
 pub ask-spec : {M : Type 1} → statement M
 ask-spec =
     tie.close
@@ -73,6 +86,8 @@ ask-spec =
     ask-recover-requires
     enum-known-request-2
     ask-step-requires
+    enum-known-request-3
+    ask-reel-requires
     same-length
     returns
     same-length-2
@@ -82,4 +97,6 @@ ask-spec =
     returns-3
     same-length-5
     same-length-6
-    returns-4)
+    returns-4
+    same-length-7
+    returns-5)

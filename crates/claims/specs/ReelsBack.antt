@@ -1,0 +1,60 @@
+-- A reel that was written and is read back in the same transaction is the same reel (document 02, Req 02).
+use Prim.Native.Nat.{ℕ}
+use mathlib.Core.Bool.{Bool, true, false, not, _&&_}
+use mathlib.Core.Path.{_≡_}
+use mathlib.Core.List.{List, [], _∷_}
+use lib.Dec.{eqb}
+use Rattle.layout.specs.Told.{ok, isRefusal}
+use Rattle.desk.specs.declared.state.Desk.{Desk}
+use Rattle.snapshot.specs.Read.{readSaid}
+use Rattle.snapshot.specs.declared.reading.ReadAnswer.the-variants.{Own}
+use Rattle.snapshot.specs.declared.writing.WriteAnswer.the-variants.{Ok}
+use Rattle.reels.specs.Reel.{wordsOf}
+use Rattle.reels.specs.Read.{readReelReply}
+use Rattle.reels.specs.Write.{writeReelReply}
+use Rattle.reels.specs.declared.reel.Reel.{Reel}
+use Rattle.reels.specs.declared.unpacking.ReelAnswer.the-variants.{Found}
+use Rattle.reels.specs.declared.reading.ReadReelReply.{ReadReelReply}
+use Rattle.history.specs.Call.{Call, begin, read, write, abandon, finish, publish, settle, reclaim}
+use Rattle.claims.specs.Rules.{storeRules}
+use Rattle.claims.specs.Run.{World, opened, run}
+
+-- a call that may stand between: no begin of the session, which would be another transaction's, and no other write of the record by it
+abbrev pub besides : ℕ → ℕ → Call → Bool
+besides s r (begin t) = not (eqb t s)
+besides s r (read t q) = true
+besides s r (write t q ws) = not (eqb t s && eqb q r)
+besides s r (abandon t) = true
+besides s r (finish len t) = true
+besides s r (publish t) = true
+besides s r (settle len t) = true
+besides s r (reclaim len t) = true
+
+unfoldable pub allBesides : ℕ → ℕ → List Call → Bool
+allBesides s r [] = true
+allBesides s r (c ∷ cs) = besides s r c && allBesides s r cs
+
+-- a read that finds the session's own reel
+abbrev pub ownReel : Desk → Reel → ReadReelReply
+ownReel d reel = record { answer = Found; source = Own; reel = reel; desk = d }
+
+module _ (w : World) (s r : ℕ) (reel : Reel) where
+  -- the store behind the write of the reel and further calls
+  abbrev pub behind : List Call → World
+  behind calls = run storeRules (write s r (wordsOf reel) ∷ calls) w
+
+  abbrev pub Back : List Call → Type 0
+  Back calls = readReelReply (behind calls .image) (behind calls .desk) s r ≡ ownReel (behind calls .desk) reel
+
+  pub record SameReel : Type 0 where
+    -- read at once
+    pub at-once : Back []
+    -- read behind further calls, where the store does not refuse the read
+    pub later : (calls : List Call) → allBesides s r calls ≡ true
+        → isRefusal (readSaid (behind calls .image) (behind calls .desk) s r) ≡ false → Back calls
+
+-- from any image that opens, behind any list of calls, a reel that the library writes
+abbrev pub ReelsBack : Type 0
+ReelsBack = (img : List ℕ) → storeRules .opens img .told ≡ ok → (earlier : List Call) (s r : ℕ) (reel : Reel)
+    → let w = run storeRules earlier (opened storeRules img) in
+    writeReelReply (w .image) (w .desk) s r reel .answer ≡ Ok → SameReel w s r reel

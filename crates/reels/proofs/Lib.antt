@@ -1,0 +1,4 @@
+pub mod Good
+pub mod Unpacked
+pub mod Lengths
+pub mod Laws

@@ -1,0 +1,31 @@
+-- The laws of the reel library.
+use Prim.Native.Nat.{ℕ}
+use mathlib.Core.Path.{_≡_}
+use mathlib.Core.Bool.{true}
+use mathlib.Core.List.{List, [], _∷_}
+use Rattle.desk.specs.declared.state.Desk.{Desk}
+use Rattle.snapshot.specs.Own.{zeroWords}
+use Rattle.snapshot.specs.Write.{writeSays}
+use Rattle.snapshot.specs.declared.writing.WriteAnswer.the-variants.{Refused as WriteRefused}
+use Rattle.reels.specs.Reel.{reelOf, noReel, shelfB}
+use Rattle.reels.specs.Pack.{packs, packReply}
+use Rattle.reels.specs.Unpack.{unpacks, unpackReply}
+use Rattle.reels.specs.Write.{writeReelReply}
+use Rattle.reels.specs.Length.{lengthAnswer}
+use Rattle.reels.specs.declared.reel.Reel.{Reel}
+use Rattle.reels.specs.declared.packing.PackAnswer.the-variants.{Refused as PackRefused, Packed}
+use Rattle.reels.specs.declared.unpacking.ReelAnswer.the-variants.{Unused, Found}
+use Rattle.reels.specs.declared.tape.LengthAnswer.the-variants.{Metres}
+
+pub record ReelLaws : Type 0 where
+  -- what is packed unpacks to itself
+  pub unpack-packed : (r : Reel) → packReply r .answer ≡ Packed → unpackReply (packReply r .words) ≡ unpacks Found r
+  -- words that can be packed unpack, and pack to themselves
+  pub pack-unpacked : (a b c d : ℕ) → let ws = a ∷ b ∷ c ∷ d ∷ [] in packReply (reelOf ws) .answer ≡ Packed
+      → (unpackReply ws ≡ unpacks Found (reelOf ws)) × (packReply (unpackReply ws .reel) ≡ packs Packed ws)
+  -- an unused record is read as such, and is neither packed nor written
+  pub unused-read : unpackReply zeroWords ≡ unpacks Unused noReel
+  pub unused-packed : packReply noReel ≡ packs (PackRefused 15) zeroWords
+  pub unused-written : (img : List ℕ) (d : Desk) (s r : ℕ) → writeReelReply img d s r noReel ≡ writeSays d (WriteRefused 15)
+  -- one hour at code 3 is 685 m, whatever the shelf number
+  pub hour : (shelf : ℕ) → shelfB shelf ≡ true → lengthAnswer (shelf ∷ 1 ∷ 3 ∷ 3600 ∷ []) ≡ Metres 685

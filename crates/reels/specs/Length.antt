@@ -1,0 +1,32 @@
+-- The tape length of a record (document 02, Req 02): seconds times speed, divided by 10,000, rounded down to metres; with code 0, an unused
+-- record's too, it is "unknown"; a bad record is refused as on reading.
+use Prim.Native.Nat.{ℕ, _+_, _*_, _/_}
+use mathlib.Core.Bool.{cond}
+use mathlib.Core.List.{List, [], _∷_}
+use lib.ListN.{getD}
+use lib.Dec.{eqb}
+use Rattle.reels.specs.Reel.{reelOf, unusedB, reelFault, goodB}
+use Rattle.reels.specs.Told.{ReelTold, refused, unknown, metres}
+use Rattle.reels.specs.declared.reel.Reel.{Reel}
+use Rattle.reels.specs.declared.tape.LengthAnswer.{LengthAnswer}
+use Rattle.reels.specs.declared.tape.LengthAnswer.the-variants.{Refused, Unknown, Metres}
+
+-- codes 1 to 5 stand for these tenths of a millimetre per second
+abbrev pub speedAt : ℕ → ℕ
+speedAt code = getD (0 ∷ 476 ∷ 953 ∷ 1905 ∷ 3810 ∷ 7620 ∷ []) code 0
+
+abbrev pub metresOf : ℕ → ℕ → ℕ
+metresOf seconds code = seconds * speedAt code / 10000
+
+abbrev pub goodLength : Reel → LengthAnswer
+goodLength r = cond (eqb (r .speed) 0) Unknown (Metres (metresOf (r .seconds) (r .speed)))
+
+unfoldable pub lengthAnswer : List ℕ → LengthAnswer
+lengthAnswer ws = cond (unusedB ws) Unknown (cond (goodB (reelOf ws)) (goodLength (reelOf ws)) (Refused (reelFault (reelOf ws))))
+
+-- what it tells
+abbrev pub goodSaid : Reel → ReelTold
+goodSaid r = cond (eqb (r .speed) 0) unknown (metres (metresOf (r .seconds) (r .speed)))
+
+unfoldable pub lengthSaid : List ℕ → ReelTold
+lengthSaid ws = cond (unusedB ws) unknown (cond (goodB (reelOf ws)) (goodSaid (reelOf ws)) (refused (reelFault (reelOf ws))))

@@ -1,0 +1,49 @@
+-- What the four words of a record mean (document 02, Req 02), and which are good. Packing, reading and the tape length all ask `reelFault`.
+use Prim.Native.Nat.{ℕ}
+use mathlib.Core.Bool.{Bool, false, _&&_, cond}
+use mathlib.Core.List.{List, [], _∷_}
+use lib.ListN.{getD}
+use lib.Dec.{leb, eqb}
+use Rattle.layout.specs.Checks.{unless, first}
+use Rattle.snapshot.specs.Own.{zeroWords}
+use Rattle.reels.specs.declared.reel.Reel.{Reel}
+
+-- word 0 is the shelf number, word 1 the carrier, word 2 the speed code, word 3 the playing time in seconds
+abbrev pub reelOf : List ℕ → Reel
+reelOf ws = record { shelf = getD ws 0 0; carrier = getD ws 1 0; speed = getD ws 2 0; seconds = getD ws 3 0 }
+
+abbrev pub wordsOf : Reel → List ℕ
+wordsOf r = r .shelf ∷ r .carrier ∷ r .speed ∷ r .seconds ∷ []
+
+-- four zero words are an unused record
+abbrev pub unusedB : List ℕ → Bool
+unusedB ws = eqb (getD ws 0 0) 0 && eqb (getD ws 1 0) 0 && eqb (getD ws 2 0) 0 && eqb (getD ws 3 0) 0
+
+-- the reel of an answer that has none
+abbrev pub noReel : Reel
+noReel = reelOf zeroWords
+
+-- the shelf number is 1 to 999,999
+abbrev pub shelfB : ℕ → Bool
+shelfB n = leb 1 n && leb n 999999
+
+-- carrier 1, an open reel, takes the speed codes 0 to 5; 2, a cassette, takes 0 or 1; 3, a disc, takes 0; there is no other carrier
+abbrev pub allowedB : ℕ → ℕ → Bool
+allowedB carrier speed =
+    cond (eqb carrier 1) (leb speed 5)
+    (cond (eqb carrier 2) (leb speed 1)
+    (cond (eqb carrier 3) (eqb speed 0)
+    false))
+
+-- the playing time is 0 to 359,999 seconds
+abbrev pub secondsB : ℕ → Bool
+secondsB t = leb t 359999
+
+-- 15 shelf number out of range, 16 carrier or speed not allowed, 17 seconds out of range, checked in that order; 0 where all is right. By
+-- words: 15 names word 0, 16 word 1 or word 2, 17 word 3.
+unfoldable pub reelFault : Reel → ℕ
+reelFault r = first (unless (shelfB (r .shelf)) 15) (first (unless (allowedB (r .carrier) (r .speed)) 16) (unless (secondsB (r .seconds)) 17))
+
+-- which reels, and so which words, are good
+abbrev pub goodB : Reel → Bool
+goodB r = eqb (reelFault r) 0

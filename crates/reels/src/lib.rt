@@ -1,0 +1,23 @@
+// Reel records (document 02, Req 02): one agreed meaning for the four words of a record. The library stands above the store and relies on its
+// contracts alone.
+mod packing;
+mod reading;
+mod reel;
+mod tape;
+mod unpacking;
+mod writing;
+
+pub use packing::PackAnswer;
+pub use packing::PackReply;
+pub use packing::pack;
+pub use reading::ReadReelReply;
+pub use reading::read;
+pub use reel::Reel;
+pub use reel::reel_of;
+pub use reel::words_of;
+pub use tape::LengthAnswer;
+pub use tape::tape_length;
+pub use unpacking::ReelAnswer;
+pub use unpacking::UnpackReply;
+pub use unpacking::unpack;
+pub use writing::write;

@@ -1,0 +1,70 @@
+// A reel: what the four words of a record mean, and which are good.
+ghost use mathlib.Core.Path.{_≡_};
+ghost use Rattle.reels.specs.Reel.{reelOf, wordsOf, noReel, allowedB, reelFault, unusedB};
+
+pub struct Reel {
+    pub shelf: u64,
+    pub carrier: u64,
+    pub speed: u64,
+    pub seconds: u64,
+}
+
+// The reel that four words name, good or not.
+pub fn reel_of(words: [u64; 4]) -> Reel
+    ensures { λ r. ⌜ r ≡ reelOf words ⌝ }
+{
+    Reel {
+        shelf: words[0],
+        carrier: words[1],
+        speed: words[2],
+        seconds: words[3],
+    }
+}
+
+// The four words that name a reel, good or not.
+pub fn words_of(reel: Reel) -> [u64; 4]
+    ensures { λ r. ⌜ r ≡ wordsOf reel ⌝ }
+{
+    [reel.shelf, reel.carrier, reel.speed, reel.seconds]
+}
+
+// The reel of an answer that has none: four zeros.
+pub fn no_reel() -> Reel
+    ensures { λ r. ⌜ r ≡ noReel ⌝ }
+{
+    reel_of([0; 4])
+}
+
+// Whether the carrier is known and takes the speed code.
+fn allowed(carrier: u64, speed: u64) -> bool
+    ensures { λ r. ⌜ r ≡ allowedB carrier speed ⌝ }
+{
+    match carrier {
+        1 => speed <= 5,
+        2 => speed <= 1,
+        3 => speed == 0,
+        _ => false,
+    }
+}
+
+// The number that a reel is refused by; 0 where it is good.
+pub fn reel_fault(reel: Reel) -> u64
+    ensures { λ r. ⌜ r ≡ reelFault reel ⌝ }
+{
+    let shelved = (1 <= reel.shelf) & (reel.shelf <= 999_999);
+    let runs = allowed(reel.carrier, reel.speed);
+    if !shelved {
+        return 15;
+    }
+    if !runs {
+        return 16;
+    }
+    if reel.seconds <= 359_999 { 0 } else { 17 }
+}
+
+// Whether four words are those of an unused record.
+pub fn unused(words: [u64; 4]) -> bool
+    ensures { λ r. ⌜ r ≡ unusedB words ⌝ }
+{
+    (words[0] == 0) & (words[1] == 0) & (words[2] == 0) & (words[3] == 0)
+}
