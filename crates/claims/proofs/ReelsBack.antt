@@ -10,9 +10,9 @@ use lib.Dec.{T, leb, eqb, eqb→eq}
 use borrow.Author.Tests.{eq-eqb}
 use Rattle.layout.specs.Image.{recordsOf, sessionsOf}
 use Rattle.layout.specs.Told.{Told, ok, own, is, refusedBy, valueOf, isRefusal, codeTold, wordsTold, Ok, Start, Empty, Sealed, End}
-use Rattle.layout.proofs.Says.{by-test}
+use Rattle.layout.proofs.Says.{says-itself, says-and}
 use Rattle.desk.specs.declared.state.Desk.{Desk as StoreDesk}
-use Rattle.snapshot.specs.Read.{readReply, readSaid}
+use Rattle.snapshot.specs.Read.{readReply}
 use Rattle.snapshot.specs.Told.{readTold, writeTold}
 use Rattle.snapshot.specs.Write.{writeSays, writeReply}
 use Rattle.snapshot.proofs.ToldLaws.{read-told}
@@ -106,13 +106,9 @@ module _ (s r : ℕ) (ws : List ℕ) where
   unfolding run step note allBesides
   run-holds [] w b h = h
   run-holds (c ∷ cs) w b h =
-      let p = both (besides s r c) (allBesides s r cs) b in
+      let p = says-and (says-itself (besides s r c)) (says-itself (allBesides s r cs)) .yes b in
       run-holds cs (step storeRules w c) (p .1)
       (note-holds c (reply storeRules w c .told) (w .ledger .number) (w .ledger .desk) (p .0) h)
-    where
-      both : (a b : Bool) → (a && b) ≡ true → (a ≡ true) × (b ≡ true)
-      both true b e = (refl, e)
-      both false b e = absurd (false≢true e)
 
   -- ---- what is due
 

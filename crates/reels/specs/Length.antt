@@ -1,6 +1,6 @@
 -- The tape length of a record (document 02, Req 02): seconds times speed, divided by 10,000, rounded down to metres; with code 0, an unused
 -- record's too, it is "unknown"; a bad record is refused as on reading.
-use Prim.Native.Nat.{ℕ, _+_, _*_, _/_}
+use Prim.Native.Nat.{ℕ, _*_, _/_}
 use mathlib.Core.Bool.{cond}
 use mathlib.Core.List.{List, [], _∷_}
 use lib.ListN.{getD}

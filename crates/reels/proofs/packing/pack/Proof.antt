@@ -13,7 +13,10 @@ packs-requires c κs = search needs
 
 returns : tie.Need-returns
 unfolding packReply packSaid
-returns c = let e = (c .before .before) .reel-fault .ensures in let n = ne-eqb _ 0 (λ z. (c .before) .if1 .taken (e ∙ z)) in (rw (c .packs .ensures, e, n), rw (c .packs .ensures, e, n))
+returns c =
+    let e = (c .before .before) .reel-fault .ensures in
+    let n = ne-eqb _ 0 (λ z. (c .before) .if1 .taken (e ∙ z)) in
+    (rw (c .packs .ensures, e, n), rw (c .packs .ensures, e, n))
 
 words-of-requires : tie.Need-words-of-requires
 words-of-requires c κs = search needs
@@ -23,7 +26,10 @@ packs-requires-2 c κs = search needs
 
 returns-2 : tie.Need-returns-2
 unfolding packReply packSaid
-returns-2 c = let n = eq-eqb _ 0 (sym ((c .before .before .before) .reel-fault .ensures) ∙ (c .before .before) .if1 .left) in (rw (c .packs2 .ensures, (c .before) .words-of .ensures, n), rw (c .packs2 .ensures, (c .before) .words-of .ensures, n))
+returns-2 c =
+    let n = eq-eqb _ 0 (sym ((c .before .before .before) .reel-fault .ensures) ∙ (c .before .before) .if1 .left) in
+    let w = (c .before) .words-of .ensures in
+    (rw (c .packs2 .ensures, w, n), rw (c .packs2 .ensures, w, n))
 
 pub pack-spec : {M : Type 1} → statement M
 pack-spec =

@@ -1,7 +1,8 @@
-use mathlib.Core.Path.{sym, _∙_}
+use mathlib.Core.Bool.{true}
+use mathlib.Core.Path.{_≡_, sym, _∙_}
 use borrow.Author.Tests.{not-true, not-false, le-leb, lt-leb}
 use Rattle.layout.specs.Checks.{first}
-use Rattle.reels.specs.Reel.{shelfB, reelFault}
+use Rattle.reels.specs.Reel.{shelfB, allowedB, reelFault}
 use borrow.Author.Needs.{needs}
 use Rattle.reels.proofs.reel.reel_fault.Statement.{statement}
 use Rattle.reels.proofs.reel.reel_fault.Tie as tie
@@ -9,21 +10,29 @@ use Rattle.reels.proofs.reel.reel_fault.Tie as tie
 allowed-requires : tie.Need-allowed-requires
 allowed-requires c κs = search needs
 
+-- the shelf number is in range
+shelved : (c : tie.Else1) → shelfB ((c .before .before .before .before) .args .reel .shelf) ≡ true
+shelved c = not-false (shelfB ((c .before .before .before .before) .args .reel .shelf)) (c .if1 .left)
+
+-- the carrier takes the speed
+runs : (c : tie.Else2) → allowedB ((c .before .before .before .before .before) .args .reel .carrier) ((c .before .before .before .before .before) .args .reel .speed) ≡ true
+runs c = sym ((c .before .before) .allowed .ensures) ∙ not-false ((c .before .before) .allowed .result) (c .if2 .left)
+
 returns : tie.Need-returns
 unfolding reelFault first
 returns c = simp (not-true (shelfB ((c .before .before .before .before) .args .reel .shelf)) (c .if1 .taken))
 
 returns-2 : tie.Need-returns-2
 unfolding reelFault first
-returns-2 c = simp (not-false (shelfB ((c .before .before .before .before .before) .args .reel .shelf)) ((c .before) .if1 .left), sym ((c .before .before) .allowed .ensures) ∙ not-true ((c .before .before) .allowed .result) (c .if2 .taken))
+returns-2 c = simp (shelved (c .before), sym ((c .before .before) .allowed .ensures) ∙ not-true ((c .before .before) .allowed .result) (c .if2 .taken))
 
 returns-3 : tie.Need-returns-3
 unfolding reelFault first
-returns-3 c = simp (not-false (shelfB ((c .before .before .before .before .before .before .before) .args .reel .shelf)) ((c .before .before .before) .if1 .left), sym ((c .before .before .before .before) .allowed .ensures) ∙ not-false ((c .before .before .before .before) .allowed .result) ((c .before .before) .if2 .left), le-leb _ _ (c .if3 .taken))
+returns-3 c = simp (shelved (c .before .before .before), runs (c .before .before), le-leb _ _ (c .if3 .taken))
 
 returns-4 : tie.Need-returns-4
 unfolding reelFault first
-returns-4 c = simp (not-false (shelfB ((c .before .before .before .before .before .before .before) .args .reel .shelf)) ((c .before .before .before) .if1 .left), sym ((c .before .before .before .before) .allowed .ensures) ∙ not-false ((c .before .before .before .before) .allowed .result) ((c .before .before) .if2 .left), lt-leb _ _ (c .if3 .left))
+returns-4 c = simp (shelved (c .before .before .before), runs (c .before .before), lt-leb _ _ (c .if3 .left))
 
 pub reel-fault-spec : {M : Type 1} → statement M
 reel-fault-spec = tie.close (tie.spec allowed-requires returns returns-2 returns-3 returns-4)

@@ -18,16 +18,19 @@ enum-told-2 : tie.Need-enum-told-2
 enum-told-2 c = search needs
 
 good-length-requires : tie.Need-good-length-requires
-good-length-requires c κs = let u = (c .before .before .before) .unpack .ensures .0 in rw u (found-good ((c .before .before .before .before) .args .words) (rw u at (c .enum-told2 .given .1)))
+good-length-requires c κs =
+    let u = (c .before .before .before) .unpack .ensures .0 in rw u (found-good ((c .before .before .before .before) .args .words) (rw u at (c .enum-told2 .given .1)))
 
 returns : tie.Need-returns
-returns c = length-tells ((c .before .before .before .before .before) .args .words) ((c .before .before .before .before) .unpack .ensures .0) (rw ((c .before) .a .given .1) refl)
+returns c =
+    length-tells ((c .before .before .before .before .before) .args .words) ((c .before .before .before .before) .unpack .ensures .0) (rw ((c .before) .a .given .1) refl)
 
 returns-2 : tie.Need-returns-2
 returns-2 c = length-tells ((c .before .before .before .before) .args .words) ((c .before .before .before) .unpack .ensures .0) (rw (c .enum-told .given .1) refl)
 
 returns-3 : tie.Need-returns-3
-returns-3 c = length-tells ((c .before .before .before .before .before) .args .words) ((c .before .before .before .before) .unpack .ensures .0) (rw ((c .before) .enum-told2 .given .1) (c .good-length .ensures))
+returns-3 c =
+    length-tells ((c .before .before .before .before .before) .args .words) ((c .before .before .before .before) .unpack .ensures .0) (rw ((c .before) .enum-told2 .given .1) (c .good-length .ensures))
 
 pub tape-length-spec : {M : Type 1} → statement M
 tape-length-spec =

@@ -18,7 +18,9 @@ unpacks-requires c κs = search needs
 
 returns : tie.Need-returns
 unfolding unpackReply
-returns c = unpack-tells ((c .before .before .before .before) .args .words) (rw (c .unpacks .ensures, (c .before) .no-reel .ensures, sym ((c .before .before .before) .unused .ensures) ∙ (c .before .before) .if1 .taken))
+returns c =
+    unpack-tells ((c .before .before .before .before) .args .words)
+    (rw (c .unpacks .ensures, (c .before) .no-reel .ensures, sym ((c .before .before .before) .unused .ensures) ∙ (c .before .before) .if1 .taken))
 
 reel-of-requires : tie.Need-reel-of-requires
 reel-of-requires c κs = search needs
@@ -34,14 +36,22 @@ unpacks-requires-2 c κs = search needs
 
 returns-2 : tie.Need-returns-2
 unfolding unpackReply
-returns-2 c = let u = sym ((c .before .before .before .before .before .before) .unused .ensures) ∙ (c .before .before .before .before .before) .if1 .left in let q = (c .before .before .before) .reel-fault .ensures ∙ ap reelFault ((c .before .before .before .before) .reel-of .ensures) in unpack-tells ((c .before .before .before .before .before .before .before) .args .words) (rw (c .unpacks2 .ensures, (c .before) .no-reel2 .ensures, u, q, ne-eqb _ 0 (λ z. (c .before .before) .if2 .taken (q ∙ z))))
+returns-2 c =
+    let u = sym ((c .before .before .before .before .before .before) .unused .ensures) ∙ (c .before .before .before .before .before) .if1 .left in
+    let q = (c .before .before .before) .reel-fault .ensures ∙ ap reelFault ((c .before .before .before .before) .reel-of .ensures) in
+    unpack-tells ((c .before .before .before .before .before .before .before) .args .words)
+    (rw (c .unpacks2 .ensures, (c .before) .no-reel2 .ensures, u, q, ne-eqb _ 0 (λ z. (c .before .before) .if2 .taken (q ∙ z))))
 
 unpacks-requires-3 : tie.Need-unpacks-requires-3
 unpacks-requires-3 c κs = search needs
 
 returns-3 : tie.Need-returns-3
 unfolding unpackReply
-returns-3 c = let u = sym ((c .before .before .before .before .before) .unused .ensures) ∙ (c .before .before .before .before) .if1 .left in let r = (c .before .before .before) .reel-of .ensures in let q = (c .before .before) .reel-fault .ensures ∙ ap reelFault r in unpack-tells ((c .before .before .before .before .before .before) .args .words) (rw (c .unpacks3 .ensures, r, u, eq-eqb _ 0 (sym q ∙ (c .before) .if2 .left)))
+returns-3 c =
+    let u = sym ((c .before .before .before .before .before) .unused .ensures) ∙ (c .before .before .before .before) .if1 .left in
+    let r = (c .before .before .before) .reel-of .ensures in
+    let q = (c .before .before) .reel-fault .ensures ∙ ap reelFault r in
+    unpack-tells ((c .before .before .before .before .before .before) .args .words) (rw (c .unpacks3 .ensures, r, u, eq-eqb _ 0 (sym q ∙ (c .before) .if2 .left)))
 
 pub unpack-spec : {M : Type 1} → statement M
 unpack-spec =

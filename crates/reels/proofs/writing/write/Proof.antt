@@ -10,7 +10,10 @@ reel-fault-requires c κs = search needs
 
 returns : tie.Need-returns
 unfolding writeReelReply writeReelSaid
-returns c = let e = (c .before) .reel-fault .ensures in let n = ne-eqb _ 0 (λ z. c .if1 .taken (e ∙ z)) in (rw (e, n), rw (e, n))
+returns c =
+    let e = (c .before) .reel-fault .ensures in
+    let n = ne-eqb _ 0 (λ z. c .if1 .taken (e ∙ z)) in
+    (rw (e, n), rw (e, n))
 
 words-of-requires : tie.Need-words-of-requires
 words-of-requires c κs = search needs
@@ -20,7 +23,10 @@ write-requires c κs = search needs
 
 returns-2 : tie.Need-returns-2
 unfolding writeReelReply writeReelSaid
-returns-2 c = let n = eq-eqb _ 0 (sym ((c .before .before .before) .reel-fault .ensures) ∙ (c .before .before) .if1 .left) in let w = c .write .ensures in (rw (n, w .0, (c .before) .words-of .ensures), rw n (w .1))
+returns-2 c =
+    let n = eq-eqb _ 0 (sym ((c .before .before .before) .reel-fault .ensures) ∙ (c .before .before) .if1 .left) in
+    let w = c .write .ensures in
+    (rw (n, w .0, (c .before) .words-of .ensures), rw n (w .1))
 
 pub write-spec : {M : Type 1} → statement M
 write-spec =
