@@ -112,11 +112,12 @@ module _ (s r : ℕ) (ws : List ℕ) where
 
   -- ---- what is due
 
-  -- of a write that is taken: its words are then held, and the read behind it is due them
-  module _ (N M : ℕ) (L : Ledger) where
+  module _ (L : Ledger) where
+    -- the ledger behind a write that is taken
     abbrev noted : Ledger
     noted = note (write s r ws) ok L
 
+    -- the words are held in it
     written-holds : HoldsIn (noted .desk)
     unfolding note
     written-holds = rw (upd-same s (copying s r ws (L .number) (L .desk .session s)) (L .desk .session)) (go (L .desk .session s))
@@ -127,34 +128,36 @@ module _ (s r : ℕ) (ws : List ℕ) where
         go (sealed n q cs) = tt
         go (published e q cs) = tt
 
-    written-read : due N M L (write s r ws) .answer ≡ ok → due N M noted (read s r) .answer ≡ own ws
-    unfolding due note
-    written-read o = rw (upd-same s (copying s r ws (L .number) (L .desk .session s)) (L .desk .session)) (go (leb M s) (leb N r) (L .desk .session s) o)
-      where
-        go : (over past : Bool) (x : Session)
-            → cond over (refuse 4) (cond past (refuse 5) (wrote M (L .number) (L .desk) s r x)) .answer ≡ ok
-            → cond over (refuse 4) (cond past (refuse 5) (reads M (noted .desk) (noted .history) r (copying s r ws (L .number) x))) .answer ≡ own ws
-        go true past x e = let w : _≡_ {A = ℕ} 0 1 = cc in absurd (omega arith)
-        go false true x e = let w : _≡_ {A = ℕ} 0 1 = cc in absurd (omega arith)
-        go false false idle e = let w : _≡_ {A = ℕ} 0 1 = cc in absurd (omega arith)
-        go false false (active b q cs) e = rw (find-put-same r ws cs) refl
-        go false false (sealed n q cs) e = let w : _≡_ {A = ℕ} 0 1 = cc in absurd (omega arith)
-        go false false (published f q cs) e = let w : _≡_ {A = ℕ} 0 1 = cc in absurd (omega arith)
+    module _ (N M : ℕ) where
+      -- and a read is due them
+      written-read : due N M L (write s r ws) .answer ≡ ok → due N M noted (read s r) .answer ≡ own ws
+      unfolding due note
+      written-read o = rw (upd-same s (copying s r ws (L .number) (L .desk .session s)) (L .desk .session)) (go (leb M s) (leb N r) (L .desk .session s) o)
+        where
+          go : (over past : Bool) (x : Session)
+              → cond over (refuse 4) (cond past (refuse 5) (wrote M (L .number) (L .desk) s r x)) .answer ≡ ok
+              → cond over (refuse 4) (cond past (refuse 5) (reads M (noted .desk) (noted .history) r (copying s r ws (L .number) x))) .answer ≡ own ws
+          go true past x e = let w : _≡_ {A = ℕ} 0 1 = cc in absurd (omega arith)
+          go false true x e = let w : _≡_ {A = ℕ} 0 1 = cc in absurd (omega arith)
+          go false false idle e = let w : _≡_ {A = ℕ} 0 1 = cc in absurd (omega arith)
+          go false false (active b q cs) e = rw (find-put-same r ws cs) refl
+          go false false (sealed n q cs) e = let w : _≡_ {A = ℕ} 0 1 = cc in absurd (omega arith)
+          go false false (published f q cs) e = let w : _≡_ {A = ℕ} 0 1 = cc in absurd (omega arith)
 
-    -- a read that is not refused is due the words that are held
-    held-read : HoldsIn (L .desk) → isRefusal (due N M L (read s r) .answer) ≡ false → due N M L (read s r) .answer ≡ own ws
-    unfolding due
-    held-read h e = go (leb M s) (leb N r) (L .desk .session s) h e
-      where
-        go : (over past : Bool) (x : Session) → Holds x
-            → isRefusal (cond over (refuse 4) (cond past (refuse 5) (reads M (L .desk) (L .history) r x)) .answer) ≡ false
-            → cond over (refuse 4) (cond past (refuse 5) (reads M (L .desk) (L .history) r x)) .answer ≡ own ws
-        go true past x h e = absurd (false≢true (sym e))
-        go false true x h e = absurd (false≢true (sym e))
-        go false false idle h e = absurd (false≢true (sym e))
-        go false false (active b q cs) h e = rw h refl
-        go false false (sealed n q cs) h e = absurd (false≢true (sym e))
-        go false false (published f q cs) h e = absurd (false≢true (sym e))
+      -- a read that is not refused is due the words that are held
+      held-read : HoldsIn (L .desk) → isRefusal (due N M L (read s r) .answer) ≡ false → due N M L (read s r) .answer ≡ own ws
+      unfolding due
+      held-read h e = go (leb M s) (leb N r) (L .desk .session s) h e
+        where
+          go : (over past : Bool) (x : Session) → Holds x
+              → isRefusal (cond over (refuse 4) (cond past (refuse 5) (reads M (L .desk) (L .history) r x)) .answer) ≡ false
+              → cond over (refuse 4) (cond past (refuse 5) (reads M (L .desk) (L .history) r x)) .answer ≡ own ws
+          go true past x h e = absurd (false≢true (sym e))
+          go false true x h e = absurd (false≢true (sym e))
+          go false false idle h e = absurd (false≢true (sym e))
+          go false false (active b q cs) h e = rw h refl
+          go false false (sealed n q cs) h e = absurd (false≢true (sym e))
+          go false false (published f q cs) h e = absurd (false≢true (sym e))
 
 -- ---- the library
 
@@ -207,10 +210,7 @@ module _ (img : List ℕ) (o : storeRules .opens img .told ≡ ok) (earlier : Li
         ∙ ap (λ (d : StoreDesk). ownReel d reel) (read-desk (v .image) (v .desk) s r)
 
     -- the ledger behind the write
-    abbrev after : Ledger
-    after = note (write s r (wordsOf reel)) ok (w .ledger)
-
-    after-write : step storeRules w (write s r (wordsOf reel)) .ledger ≡ after
+    after-write : step storeRules w (write s r (wordsOf reel)) .ledger ≡ noted s r (wordsOf reel) (w .ledger)
     unfolding step
     after-write = ap (λ (t : Told). note (write s r (wordsOf reel)) t (w .ledger)) taken
 
@@ -218,13 +218,13 @@ module _ (img : List ℕ) (o : storeRules .opens img .told ≡ ok) (earlier : Li
     unfolding run reply
     same-reel =
         record {
-          at-once = finds [] (rw after-write (written-read s r (wordsOf reel) _ _ (w .ledger) (sym (demand2 img o earlier (write s r (wordsOf reel))) ∙ taken)));
+          at-once = finds [] (rw after-write (written-read s r (wordsOf reel) (w .ledger) _ _ (sym (demand2 img o earlier (write s r (wordsOf reel))) ∙ taken)));
           later = λ calls b n.
               let v = behind w s r reel calls in
               finds calls
-              (held-read s r (wordsOf reel) _ _ (v .ledger)
+              (held-read s r (wordsOf reel) (v .ledger) _ _
               (run-holds s r (wordsOf reel) calls (step storeRules w (write s r (wordsOf reel))) b
-              (subst (λ (L : Ledger). HoldsIn s r (wordsOf reel) (L .desk)) (sym after-write) (written-holds s r (wordsOf reel) (recordsOf img) (sessionsOf img) (w .ledger))))
+              (subst (λ (L : Ledger). HoldsIn s r (wordsOf reel) (L .desk)) (sym after-write) (written-holds s r (wordsOf reel) (w .ledger))))
               (ap isRefusal (sym (tells-due calls (read s r)) ∙ read-told (v .image) (v .desk) s r) ∙ n));
         }
 
