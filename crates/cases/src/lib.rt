@@ -1,4 +1,5 @@
-// Single calls, of the store and of the reel library, for a test program: a desk out of words, a call answered by plain numbers, and digests of what it leaves.
+// Single calls, of the store and of the reel library, for a test program: a desk out of words, a call answered by plain numbers, and digests
+// of what it leaves.
 mod asking;
 mod desk_mixing;
 mod desk_words;
