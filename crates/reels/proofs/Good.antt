@@ -22,8 +22,8 @@ shelf-least n e = leb-true 1 n (go (leb 1 n) (leb n 999999) e)
     go false b e = e
 
 -- no carrier takes a code above 5
-speed-most : (carrier speed : ℕ) → allowedB carrier speed ≡ true → speed ≤ 5
-speed-most carrier speed e = go (eqb carrier 1) (eqb carrier 2) (eqb carrier 3) e
+code-most : (carrier speed : ℕ) → allowedB carrier speed ≡ true → speed ≤ 5
+code-most carrier speed e = go (eqb carrier 1) (eqb carrier 2) (eqb carrier 3) e
   where
     go : (a b c : Bool) → cond a (leb speed 5) (cond b (leb speed 1) (cond c (eqb speed 0) false)) ≡ true → speed ≤ 5
     go true b c e = leb-true speed 5 e
@@ -37,7 +37,7 @@ good-known r e =
     let f = go (shelfB (r .shelf)) (allowedB (r .carrier) (r .speed)) (secondsB (r .seconds)) e in
     record {
       shelf = shelf-least (r .shelf) (f .0);
-      speed = speed-most (r .carrier) (r .speed) (f .1);
+      speed = code-most (r .carrier) (r .speed) (f .1);
       seconds = leb-true (r .seconds) 359999 (f .2);
     }
   where

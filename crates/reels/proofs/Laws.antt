@@ -39,7 +39,7 @@ unfolding packReply
 good-packs r g = rw g refl
 
 hour-long : (shelf : ℕ) → shelfB shelf ≡ true → lengthAnswer (shelf ∷ 1 ∷ 3 ∷ 3600 ∷ []) ≡ Metres 685
-unfolding lengthAnswer reelFault first
+unfolding lengthAnswer unpackReply reelFault first
 hour-long shelf e = rw (ne-eqb shelf 0 (λ z. omega (arith, shelf-least shelf e)), e) refl
 
 pub reel-laws : ReelLaws

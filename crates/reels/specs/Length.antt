@@ -7,7 +7,10 @@ use lib.ListN.{getD}
 use lib.Dec.{eqb}
 use Rattle.reels.specs.Reel.{reelOf, unusedB, reelFault, goodB}
 use Rattle.reels.specs.Told.{ReelTold, refused, unknown, metres}
+use Rattle.reels.specs.Unpack.{unpackReply}
 use Rattle.reels.specs.declared.reel.Reel.{Reel}
+use Rattle.reels.specs.declared.unpacking.ReelAnswer.{ReelAnswer}
+use Rattle.reels.specs.declared.unpacking.ReelAnswer.the-variants.{Refused as Bad, Unused, Found}
 use Rattle.reels.specs.declared.tape.LengthAnswer.{LengthAnswer}
 use Rattle.reels.specs.declared.tape.LengthAnswer.the-variants.{Refused, Unknown, Metres}
 
@@ -21,8 +24,14 @@ metresOf seconds code = seconds * speedAt code / 10000
 abbrev pub goodLength : Reel → LengthAnswer
 goodLength r = cond (eqb (r .speed) 0) Unknown (Metres (metresOf (r .seconds) (r .speed)))
 
+-- by what the words unpack to
+abbrev pub lengthOf : ReelAnswer → Reel → LengthAnswer
+lengthOf (Bad k) r = Refused k
+lengthOf Unused r = Unknown
+lengthOf Found r = goodLength r
+
 unfoldable pub lengthAnswer : List ℕ → LengthAnswer
-lengthAnswer ws = cond (unusedB ws) Unknown (cond (goodB (reelOf ws)) (goodLength (reelOf ws)) (Refused (reelFault (reelOf ws))))
+lengthAnswer ws = lengthOf (unpackReply ws .answer) (unpackReply ws .reel)
 
 -- what it tells
 abbrev pub goodSaid : Reel → ReelTold

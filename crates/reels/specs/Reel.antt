@@ -1,4 +1,5 @@
--- What the four words of a record mean (document 02, Req 02), and which are good. Packing, reading and the tape length all ask `reelFault`.
+-- What the four words of a record mean (document 02, Req 02), and which are good: packing, unpacking, reading, writing and the tape length
+-- all ask `reelFault`.
 use Prim.Native.Nat.{ℕ}
 use mathlib.Core.Bool.{Bool, false, _&&_, cond}
 use mathlib.Core.List.{List, [], _∷_}
