@@ -8,16 +8,19 @@ what the call must answer and leave.
     python3 raw.py show SEED CASE              one case in full, as text
 
 A case depends on the seed and its own number (from 0) alone. The cases of the
-reel library (document 02, Req 02) are made by rawreels.py, in the same format.
+reel library (document 02, Req 02) are made by rawreels.py, those of the
+listening room's calls (Req 03) by rawlistening.py, in the same format.
 
 INPUT. 64-bit words, lowest byte first, case after case up to the end of file:
     word  0       call: 0 lay, 1 begin, 2 read, 3 write, 4 finish, 5 publish,
                   6 settle, 7 reclaim, 8 abandon, 9 open, 10 recover; of the reel
-                  library: 11 pack, 12 unpack, 13 read, 14 write, 15 length
+                  library: 11 pack, 12 unpack, 13 read, 14 write, 15 length; of
+                  the listening room: 16 begin, 17 read, 18 finish, 19 find
     words 1, 2    N and M, for lay
     words 3, 4    session and record
     words 5-8     the four words, for write; shelf, carrier, speed and seconds,
-                  for 11 and 14; the record's words, for 12 and 15
+                  for 11 and 14; the record's words, for 12 and 15; for 19
+                  the shelf number in word 5
     word  9       trace length in words, at most 64
     word  10      image length in words, at most 1800
     words 11-653  the desk, 643 words (below)
@@ -40,16 +43,17 @@ WANT. One line of text a case, 12 decimal fields parted by one space:
     digest of the image, digest of the trace, digest of the desk
 The answer is the refusal's number, or 20 ok, 21 start, 22 own, 23 copy,
 24 home, 25 empty, 26 sealed, 27 end, 28 wait, 29 none, 30 held, 31 cleared,
-32 clean, 33 replayed, 34 reel, 35 unused, 36 unknown, 37 metres. The value
-goes with start, sealed, end, wait, held, cleared, replayed, metres, 7 and 12;
-for 13 it is 22, 23 or 24 as the store read, with 34, 35, 15, 16 and 17, and 0
-where the store refused. The four words go with own, copy and home, with ok of
-11 (the words packed) and with reel (shelf, carrier, speed, seconds); unused
-fields are 0. Entries is their number; they stand at the front of the trace.
-The digests are of what the call leaves, refused or not; 0 where the call
-takes no such part (lay: image alone; begin, publish, abandon: desk alone;
-open: image and the desk it gives; read, write, 13, 14: image and desk;
-recover: image and trace; 11, 12, 15: none).
+32 clean, 33 replayed, 34 reel, 35 unused, 36 unknown, 37 metres, 38 found. The
+value goes with start, sealed, end, wait, held, cleared, replayed, metres, found
+(the record), 7 and 12; for 13 it is 22, 23 or 24 as the store read, with 34,
+35, 15, 16 and 17, and 0 where the store refused. The four words go with own,
+copy and home, with ok of 11 (the words packed) and with reel (shelf, carrier,
+speed, seconds); unused fields are 0. Entries is their number; they stand at
+the front of the trace. The digests are of what the call leaves, refused or
+not; 0 where the call takes no such part (lay: image alone; begin, publish,
+abandon, 16: desk alone; open: image and the desk it gives; read, write, 13,
+14, 17, 19: image and desk; finish, settle, reclaim, 18: all three; recover:
+image and trace; 11, 12, 15: none).
 
 DIGEST of k words: d = k at first, then for each word w, with its parts
 w % 2**32 and then w // 2**32:
@@ -64,6 +68,7 @@ import struct
 import sys
 from collections import Counter
 
+import listening
 import reels
 import store
 from store import L
@@ -73,11 +78,13 @@ MOST = {"N": 256, "M": 16}
 STORE_CALLS = ["lay", "begin", "read", "write", "finish", "publish", "settle",
                "reclaim", "abandon", "open", "recover"]
 REEL_CALLS = ["pack", "unpack", "read reel", "write reel", "length"]
-CALLS = STORE_CALLS + REEL_CALLS
+LISTENING_CALLS = ["begin listening", "read listening", "finish listening", "find"]
+CALLS = STORE_CALLS + REEL_CALLS + LISTENING_CALLS
 PHASES = ["idle", "active", "sealed", "published"]
 ANSWERS = ["ok", "start", "own", "copy", "home", "empty", "sealed", "end", "wait",
-           "none", "held", "cleared", "clean", "replayed", "reel", "unused", "unknown", "metres"]
-# Of the store's calls; the reel library's read and write take what the store's take.
+           "none", "held", "cleared", "clean", "replayed", "reel", "unused", "unknown", "metres",
+           "found"]
+# Of the store's calls; for those of the libraries see like().
 WITH_DESK = STORE_CALLS[1:9]
 WITH_IMAGE = [c for c in STORE_CALLS if c not in ("begin", "publish", "abandon")]
 WITH_TRACE = ["finish", "settle", "reclaim", "recover"]
@@ -86,25 +93,40 @@ WITH_RECORD = ["read", "write"]
 
 # ---- running and encoding a case -----------------------------------------
 
-def run(case, library=reels):
-    """Makes the call of a case on the model, the last five on this reel library."""
+def like(call):
+    """The store's call that takes the same parts: read for "read reel". A find takes those of a read, but
+    no record. Pack, unpack and length are like none of the store's."""
+    return "read" if call == "find" else call.split()[0]
+
+
+def library_of(call):
+    """The file of the model that has this call."""
+    if call in REEL_CALLS:
+        return reels
+    return listening if call in LISTENING_CALLS else store
+
+
+def run(case, library=None):
+    """Makes the call of a case on the model, or on this copy of the file that has it."""
     call, image, desk, trace, session = (case[k] for k in ("call", "image", "desk", "trace", "session"))
-    model = library if call in REEL_CALLS else store
+    model, name = library or library_of(call), call.split()[0]
     if call == "lay":
-        return store.lay(case["N"], case["M"], image)
+        return model.lay(case["N"], case["M"], image)
     if call == "open":
-        return store.open_image(image)
+        return model.open_image(image)
     if call == "recover":
-        return store.recover(image, trace)
-    if call in ("read", "read reel"):
+        return model.recover(image, trace)
+    if call == "find":
+        return model.find(image, desk, session, case["words"][0])
+    if name == "read":
         return model.read(image, desk, session, case["record"])
-    if call in ("write", "write reel"):
+    if name == "write":
         return model.write(image, desk, session, case["record"], case["words"])
     if call in REEL_CALLS:
         return getattr(model, call)(case["words"])
-    if call in WITH_TRACE:
-        return getattr(store, call)(image, desk, trace, session)
-    return getattr(store, call)(desk, session)
+    if name in WITH_TRACE:
+        return getattr(model, name)(image, desk, trace, session)
+    return getattr(model, name)(desk, session)
 
 
 def desk_words(desk):
@@ -183,7 +205,7 @@ def want_line(number, case):
     fields = [number, CALLS.index(call), answer_number(answer), value_number(answer)]
     fields += answer["words"] + [len(done["entries"])]
     fields.append(0 if done["image"] is None else digest(done["image"]))
-    fields.append(digest(trace) if call in WITH_TRACE else 0)
+    fields.append(digest(trace) if like(call) in WITH_TRACE else 0)
     fields.append(0 if done["desk"] is None else digest(desk_words(done["desk"])))
     return " ".join(str(field) for field in fields)
 
@@ -900,11 +922,12 @@ def count(cases):
     """How many cases there are by call and answer."""
     seen = Counter((case["call"], title(run(case)["answer"])) for case in cases)
     for (call, got), times in sorted(seen.items()):
-        print("%7d %-10s %s" % (times, call, got))
+        print("%7d %-16s %s" % (times, call, got))
 
 
 def main(words, make, usage, first=0):
-    """The commands of raw.py, and with other cases, numbered from first on, those of rawreels.py."""
+    """The commands of raw.py, and with other cases, numbered from first on, those of rawreels.py and
+    rawlistening.py."""
     if len(words) != 3 or words[0] not in ("in", "packed", "want", "count", "show"):
         sys.exit(usage)
     seed, number = int(words[1]), int(words[2])

@@ -15,6 +15,7 @@ HERE = os.path.dirname(os.path.abspath(__file__))
 sys.path.insert(0, HERE)
 
 import raw  # noqa: E402
+import rawlistening  # noqa: E402
 import rawreels  # noqa: E402
 import reelwalk  # noqa: E402
 import streams  # noqa: E402
@@ -22,8 +23,10 @@ import streams  # noqa: E402
 CRATES = os.path.join(HERE, "..", "crates")
 SEEDS = {kind: 14 for kind in streams.KINDS}
 SEEDS["long"] = 6
-RAW_SEED, RAW_CASES = 1, rawreels.FIRST  # cases of raw.py; behind them a round of the reel cases
-REEL_CASES = len(rawreels.TURNS)
+RAW_SEED = 1
+# What makes the raw cases, each from this number on; of the last two it is one round.
+RAW_MAKERS = [(0, raw), (rawreels.FIRST, rawreels), (rawlistening.FIRST, rawlistening)]
+RAW_CASES = rawlistening.FIRST + len(rawlistening.TURNS)
 
 
 def schedule(kind_and_seed):
@@ -34,10 +37,8 @@ def schedule(kind_and_seed):
 
 def raw_case(number):
     """A raw case, packed, and the line that it must give."""
-    if number < RAW_CASES:
-        case, _ = raw.make(RAW_SEED, number)
-    else:
-        case, _ = rawreels.make(RAW_SEED, number - RAW_CASES)
+    first, maker = [(first, maker) for first, maker in RAW_MAKERS if first <= number][-1]
+    case, _ = maker.make(RAW_SEED, number - first)
     return raw.packed(raw.case_words(case)), (raw.want_line(number, case) + "\n").encode()
 
 
@@ -46,7 +47,7 @@ def files():
     kinds = [(kind, seed) for kind, seeds in SEEDS.items() for seed in range(1, seeds + 1)]
     with multiprocessing.Pool() as pool:
         for crate, make, cases in (("schedules", schedule, kinds),
-                                   ("rawcases", raw_case, range(RAW_CASES + REEL_CASES))):
+                                   ("rawcases", raw_case, range(RAW_CASES))):
             made = pool.map(make, cases, chunksize=1 if crate == "schedules" else 8)
             for i, name in enumerate(("stdin", "stdout")):
                 yield os.path.join(CRATES, crate, name), b"".join(part[i] for part in made)

@@ -12,12 +12,16 @@ import os
 import random
 import sys
 import types
+from collections import Counter
 
+import listening
 import raw
+import rawlistening
 import rawreels
 import reels
 import reelwalk
 import store
+import stored
 import streams
 
 HERE = os.path.dirname(os.path.abspath(__file__))
@@ -107,15 +111,18 @@ class Foresight:
         self.slot = [None] * m
         self.logs = {}                               # place: persist number
 
+    def refusal(self, call, session, record):
+        """The first of 4, 5 and 6 that refuses a call, or 0."""
+        if session >= self.m:
+            return 4
+        if call in ("read", "write") and record >= self.n:
+            return 5
+        return 6 if call in self.NEED and self.phase[session] != self.NEED[call] else 0
+
     def step(self, call, session, record):
         """(name or refusal number, value, number of entries) of a call."""
-        if session >= self.m:
-            return (4, 0, 0)
-        if call in ("read", "write") and record >= self.n:
-            return (5, 0, 0)
-        if call in self.NEED and self.phase[session] != self.NEED[call]:
-            return (6, 0, 0)
-        return getattr(self, call)(session, record)
+        number = self.refusal(call, session, record)
+        return (number, 0, 0) if number else getattr(self, call)(session, record)
 
     def holder(self, record):
         return [s for s in range(self.m) if record in self.mine[s]]
@@ -608,16 +615,16 @@ def recovered(st, trial, rng, run):
 def case_read(words):
     """A case read back from its input words, and the words left over."""
     call, desk, at = raw.CALLS[words[0]], words[11:654], 654 + words[10]
-    through = call in ("read reel", "write reel")  # these take what the store's take
+    like = raw.like(call)
     entries = [desk[259 + 24 * s:283 + 24 * s] for s in range(16)]
     sessions = [{"phase": raw.PHASES[e[0]], "number": e[1], "count": e[2], "slot": e[3],
                  "places": [[e[i], e[i + 1:i + 5]] for i in range(4, 24, 5)]} for e in entries]
     case = {"call": call, "N": words[1], "M": words[2], "session": words[3], "record": words[4],
             "words": words[5:9], "trace": words[9],
-            "image": words[654:at] if through or call in raw.WITH_IMAGE else None,
+            "image": words[654:at] if like in raw.WITH_IMAGE else None,
             "desk": {"clock": desk[0], "N": desk[1], "M": desk[2],
                      "marks": [mark - 1 if mark else None for mark in desk[3:259]],
-                     "sessions": sessions} if through or call in raw.WITH_DESK else None}
+                     "sessions": sessions} if like in raw.WITH_DESK else None}
     return case, words[at:]
 
 
@@ -645,7 +652,7 @@ def check_format(case, what):
         raise AssertionError(what + " out of the stated bounds")
 
 
-def made_unaltered(case, library=reels):
+def made_unaltered(case, library=None):
     """What the call of a case gives; it alters nothing that it is given."""
     before = raw.case_words(case)
     done = raw.run(case, library)
@@ -843,8 +850,8 @@ def reel_round():
 
 
 def store_did(case):
-    """What the store's call gives for a read or write of a reel."""
-    return raw.run(dict(case, call=case["call"].split()[0]))
+    """What the store's call gives for a call of the libraries."""
+    return raw.run(dict(case, call=raw.like(case["call"])))
 
 
 def told_wanted(case, aim, where):
@@ -900,10 +907,299 @@ def reel_aims(lib):
     return "%d answers" % len(seen)
 
 
+# ---- tests of the listening room's calls ---------------------------------
+
+# In the room session 3 listens from 6 on. By record, who copies it: session, phase and number.
+ROOM = {1: (0, "published", 6), 2: (4, "published", 7), 3: (1, "sealed", 5), 4: (7, "active", 2),
+        5: (2, "published", 5)}
+ROOM_SEEN = {0: 10, 1: 21, 2: 12, 3: 13, 4: 14, 5: 25, 6: 16, 7: 17}  # word 0 in its snapshot
+
+
+def room(own=(), clock=9):
+    """Image and desk: word 0 is 10 and the record at home, 20 and the record in a copy; words 1 to 3 are
+    30 and 40 instead. Records 0, 6 and 7 have no copy but those that session 3 itself holds."""
+    desk, image = store.new_desk(clock, 8, 8), laid(store, 8, 8)
+    for record in range(8):
+        image[4 + 4 * record:8 + 4 * record] = [10 + record] + [30 + record] * 3
+    seats = [(3, "active", 6, own)] + [(*seat, [record]) for record, seat in ROOM.items()]
+    for session, phase, number, records in seats:
+        copies = [[record, [20 + record] + [40 + record] * 3] for record in records]
+        desk["sessions"][session] = store.entry(phase, number, copies)
+        for record in records:
+            desk["marks"][record] = session
+    return image, desk
+
+
+def listened(lib, call, image, desk, session=3, record=0, number=10, trace=48):
+    """What one of the listening room's calls gives, the image as before where it takes none."""
+    case = dict(raw.blank(call), image=image, desk=desk, session=session, record=record, trace=trace,
+                words=[number, 0, 0, 0])
+    done = raw.run(case, lib)
+    return dict(done, image=image) if call == "begin listening" else done
+
+
+def left(done, image, desk, what):
+    same((done["desk"], done["image"], done["entries"]), (desk, image, []), "left by " + what)
+
+
+def refusal_rows():
+    """What is not as in the room, and what read, finish and find then answer."""
+    image, desk = room()
+    _, copies = room([6])
+    late = {"desk": room([0, 6, 7], L)[1]}
+    torn, short = dict(desk, clock=0), image[:-1]
+    far = {"session": 8, "record": 8, "trace": 47}
+    yield {}, ["home", "empty", "found"]
+    yield {"image": short}, [1, 1, 1]
+    yield {"image": short, "desk": torn, **far}, [1, 1, 1]
+    yield {"image": short, "desk": copies}, [1, 1, 1]
+    yield {"desk": torn, **far}, [2, 2, 2]
+    yield {"desk": dict(copies, clock=5)}, [2, 2, 2]
+    yield far, [4, 3, 4]
+    yield {"trace": 47}, ["home", 3, "found"]
+    yield {"trace": 0, "session": 5}, [6, 3, 6]
+    yield {"trace": 47, "desk": copies}, [18, 3, 18]
+    yield {"session": TOP, "record": TOP}, [4, 4, 4]
+    yield {"session": 2 ** 32 + 3, "desk": copies}, [4, 4, 4]
+    yield {"record": 8}, [5, "empty", "found"]
+    yield {"record": 8, "session": 5}, [5, 6, 6]
+    yield {"record": 8, "desk": copies}, [5, 18, 18]
+    for session in (5, 0, 1):  # idle; published and sealed, with copies
+        yield {"session": session}, [6, 6, 6]
+    for own in ([6], [7, 0], [0, 6, 7]):
+        yield {"desk": room(own)[1], "record": own[-1]}, [18, 18, 18]
+        yield {"desk": room(own)[1], "record": 1}, [18, 18, 18]
+    yield late, [18, 18, 18]
+    yield {**late, "trace": 47}, [18, 3, 18]
+    for clock in (L - 1, L, L + 15):  # one session is sealed
+        yield {"desk": room(clock=clock)[1]}, ["home", "empty", "found"]
+        yield {"desk": room([0], clock)[1]}, [18, 18, 18]
+    yield {"desk": room(clock=L + 16)[1]}, [2, 2, 2]
+
+
+def listening_refusals(lib):
+    """Read, finish and find: each refusal, which comes first, and all left; find gives 15 before all."""
+    for changes, wanted in refusal_rows():
+        scene = dict(zip(("image", "desk"), room()), **changes)
+        image, desk = scene["image"], scene["desk"]
+        for call, answer in zip(raw.LISTENING_CALLS[1:], wanted):
+            done = listened(lib, call, **scene)
+            same(answer_of(done), (answer, 0), "%s with %s" % (call, list(changes)))
+            left(done, image, store.made_idle(desk, 3) if answer == "empty" else desk, call)
+        for number in (0, 1000000, 2 ** 32, 2 ** 32 + 10, 2 ** 63, TOP):
+            done = listened(lib, "find", **dict(scene, number=number))
+            same(told(done), (15, 0, ZEROS), "find %d with %s" % (number, list(changes)))
+            left(done, image, desk, "find")
+
+
+def listening_begins(lib):
+    """Begin: start is the clock, also at L and above; 2, 4 and 6."""
+    for clock in (9, L, L + 15):
+        image, desk = room(clock=clock)
+        done = listened(lib, "begin listening", image, desk, 5)
+        same(told(done), ("start", clock, ZEROS), "begin")
+        left(done, image, store.with_entry(desk, 5, store.entry("active", clock)), "begin")
+    for desk, session, number in (
+            (dict(desk, clock=0), 8, 2), (desk, 8, 4), (desk, TOP, 4), (desk, 2 ** 32 + 5, 4),
+            (desk, 0, 6), (desk, 1, 6), (desk, 3, 6), (room([6])[1], 3, 6)):
+        done = listened(lib, "begin listening", image, desk, session)
+        same(told(done), (number, 0, ZEROS), "begin by %d" % session)
+        left(done, image, desk, "begin")
+
+
+def listening_finds(lib):
+    """Read and find by hand in the room: each record, hidden words, words 1 to 3, and the first of two."""
+    image, desk = room()
+    for record, word in ROOM_SEEN.items():
+        name, rest = ("copy", 40) if word >= 20 else ("home", 30)
+        done = listened(lib, "read listening", image, desk, record=record)
+        same(told(done), (name, 0, [word] + [rest + record] * 3), "read of %d" % record)
+        left(done, image, desk, "read")
+    cases = [(image, word, ("found", record)) for record, word in ROOM_SEEN.items()]
+    cases += [(image, word, ("none", 0)) for word in (11, 22, 23, 24, 15, *range(30, 48), 1, 999999)]
+    for record in (0, 6, 7):  # a match at home too, ahead of one in a copy or behind it
+        for word, copied in ((21, 1), (25, 5)):
+            cases.append((store.made(image, [(4 + 4 * record, word)]), word, ("found", min(record, copied))))
+        for word in (11, 22, 23, 24, 15):  # or beside one that is hidden
+            cases.append((store.made(image, [(4 + 4 * record, word)]), word, ("found", record)))
+    for word in (1, 999999):
+        cases.append((store.made(image, [(32, word)]), word, ("found", 7)))
+    cases.append((store.made(image, [(32, 2 ** 32 + 10), (28, 2 ** 63 + 99)]), 99, ("none", 0)))
+    cases.append((store.made(image, [(4 + 4 * record, 5) for record in range(8)]), 5, ("found", 0)))
+    for image, word, wanted in cases:
+        done = listened(lib, "find", image, desk, number=word)
+        same(told(done), (*wanted, ZEROS), "find %d" % word)
+        left(done, image, desk, "find")
+    for n, record in ((1, 0), (256, 255), (256, 0), (256, None)):
+        large, desk = laid(store, n, 16), store.begin(store.new_desk(1, n, 16), 15)["desk"]
+        if record is not None:
+            large[4 + 4 * record] = 777
+        done = listened(lib, "find", large, desk, 15, number=777)
+        same(answer_of(done), ("none", 0) if record is None else ("found", record), "find in %d" % n)
+
+
+class ListeningTrial(Trial):
+    """A trial with so few shelf numbers that searches find them."""
+
+    def shelf(self):
+        return self.rng.randrange(1, self.n + 4)
+
+    def scribbled(self, image):
+        image = super().scribbled(image)
+        image[4:4 + 4 * self.n:4] = [self.shelf() for _ in range(self.n)]
+        return image
+
+    def choose(self):
+        """The same, but a published session mostly stays so, for those that begin after it."""
+        call, session, record, words = super().choose()
+        if call == "settle" and self.rng.random() < 0.8:
+            return self.choose()
+        return call, session, record, [self.shelf()] + words[1:]
+
+    def listen(self):
+        """A listening call, mostly by a session without copies: call, session, record and number."""
+        rng, (_, session, record, _) = self.rng, super().choose()
+        without = [s for s in range(self.m) if not self.foresight.mine[s]]
+        if without and rng.random() < 0.6:
+            session = rng.choice(without)
+        idle = session < self.m and self.foresight.phase[session] == "idle"
+        call = "begin" if idle else rng.choice(["read", "find", "find", "find", "finish"])
+        if rng.random() < 0.1:
+            call = rng.choice(["begin", "read", "find", "finish"])
+        number = self.shelf() if rng.random() < 0.95 else rng.choice([0, 1000000, 2 ** 32 + 1, TOP])
+        return call, session, record, number
+
+    def foreseen(self, call, session, record, number):
+        """Answer and value of a listening call, from the calls before it alone."""
+        if call == "find" and not 1 <= number <= 999999:
+            return 15, 0
+        like = "read" if call == "find" else call
+        refusal = self.foresight.refusal(like, session, 0 if call == "find" else record)
+        if refusal or self.foresight.mine[session]:
+            return refusal or 18, 0
+        if call != "find":
+            return self.foresight.step(call, session, record)[:2]
+        view = self.book.view(session)
+        matches = [record for record in range(self.n) if view[record][0] == number]
+        return ("found", matches[0]) if matches else ("none", 0)
+
+
+def listening_step(lib, trial, seen):
+    """One listening call: its answer as foreseen; each record read or looked at as the book says."""
+    call, session, record, number = trial.listen()
+    wanted = trial.foreseen(call, session, record, number)
+    scene = (trial.image, trial.desk, session)
+    name = call if call == "find" else call + " listening"
+    done = listened(lib, name, *scene, record, number)
+    same(answer_of(done), wanted, "%s by %d, record %d, number %d" % (call, session, record, number))
+    check_shape(store, trial, [call], done)
+    same(done["entries"], [], "entries of " + call)
+    if call in ("read", "find"):
+        left(done, trial.image, trial.desk, call)
+    looked = {"copy": [record], "home": [record], "found": range(wanted[1] + 1), "none": range(trial.n)}
+    for at in looked.get(wanted[0], []):
+        got = listened(lib, "read listening", *scene, at)["answer"]
+        same(got["words"], trial.book.shared(session, at), "words of %d" % at)
+        seen["looked at, " + got["name"]] += call == "find"
+    seen["%s %s" % (call, wanted[0])] += 1
+    seen["found in a copy"] += wanted[0] == "found" and got["name"] == "copy"
+    trial.take((call, session, record, None), done)
+
+
+def listening_runs(lib):
+    """Demands 2 and 3 with listening calls among the store's: answers, words, and the records after a cut."""
+    seen = Counter()
+    for run in range(int(80 * SHARE)):
+        rng = random.Random("listening/%d" % run)
+        trial = ListeningTrial(store, rng, *((20, 16) if run % 10 == 9 else ()))
+        memory = Memory(trial.image)
+        for _ in range(140):
+            if rng.random() < 0.4:
+                listening_step(lib, trial, seen)
+                continue
+            step = trial.choose()
+            done = trial.made(*step)
+            same((*answer_of(done), len(done["entries"])), trial.foresight.step(*step[:3]), "run %d" % run)
+            trial.take(step, done)
+            memory.take(done["entries"])
+        cut_call(trial, memory, rng)
+        recovered(store, trial, rng, run)
+        same(trial.homes(), trial.book.records(), "records in run %d" % run)
+    wanted = ["begin start", "begin 6", "finish empty", "finish 18", "read copy", "read home", "read 18",
+              "find found", "find none", "find 15", "find 6", "find 18", "found in a copy"]
+    few = [name for name in wanted if seen[name] < 30 * SHARE]
+    same(few, [], "too few of")
+    return "found %(find found)d, of these in a copy %(found in a copy)d, none %(find none)d" % seen
+
+
+@functools.lru_cache(maxsize=None)
+def listening_round():
+    """The stored listening cases, each with its aim."""
+    return [rawlistening.make(stored.RAW_SEED, number) for number in range(len(rawlistening.TURNS))]
+
+
+def listening_cases(lib):
+    """Each stored listening case meets its aim and leaves what it must; none alters its input."""
+    for number, (case, (call, aim, value)) in enumerate(listening_round()):
+        what = "listening case %d, %s" % (number, call)
+        done = made_unaltered(case, lib)
+        same(case["call"], call, what)
+        words = store_did(case)["answer"]["words"] if aim in ("copy", "home") else ZEROS
+        same(told(done), (aim, value, words), what)
+        left(done, case["image"], store_did(case)["desk"] if aim in ("start", "empty") else case["desk"], what)
+    return "%d cases" % len(listening_round())
+
+
+def number_places(case):
+    """Where a search's number stands under a copy: its holder's phase and how its number compares with
+    the start, whether in home and copy, and the place of the copy."""
+    sessions, number = case["desk"]["sessions"], case["words"][0]
+    start = sessions[case["session"]]["number"]
+    for e in sessions:
+        way = (e["number"] > start) - (e["number"] < start) if e["phase"] == "published" else None
+        for place, (record, words) in enumerate(store.copies_of(e)):
+            parts = (store.home(case["image"], record)[0] == number, words[0] == number)
+            if any(parts):
+                yield e["phase"], way, parts, place
+
+
+def listening_aims(lib):
+    """The listening cases have the stated form; every answer and every edge occurs."""
+    seen, shelves, callers, found, places, limits = (set() for _ in range(6))
+    for number, (case, (call, aim, value)) in enumerate(listening_round()):
+        check_format(case, "listening case %d" % number)
+        seen.add((call, aim))
+        n, m = case["desk"]["N"], case["desk"]["M"]
+        limits |= {(aim, case["trace"]), (aim, case["session"] - m), (aim, "record", case["record"] - n),
+                   (aim, "clock", min(0, case["desk"]["clock"] - L))}
+        if call == "find":
+            shelves.add(case["words"][0])
+        if aim in ("found", "none"):
+            places |= set(number_places(case))
+            callers.add((m, case["session"]))
+            found.add((n, m, "none" if aim == "none" else {n - 1: "last", 0: "first"}.get(value)))
+    answers = {"begin listening": ["start", 2, 4, 6], "read listening": ["copy", "home", 1, 2, 4, 5, 6, 18],
+               "finish listening": ["empty", 1, 2, 3, 4, 6, 18], "find": ["found", "none", 15, 1, 2, 4, 6, 18]}
+    same(seen, {(call, aim) for call, aims in answers.items() for aim in aims}, "answers")
+    same({0, 1, 999999, 1000000, 2 ** 32 + 5, 2 ** 63, TOP} - shelves, set(), "shelf numbers")
+    same({(16, session) for session in range(16)} - callers, set(), "callers")
+    kinds = [("active", None), ("sealed", None), ("published", 1), ("published", 0), ("published", -1)]
+    parts = [(True, False), (False, True), (True, True)]
+    wanted = {(*kind, part, place) for kind in kinds for part in parts for place in range(4)}
+    same(wanted - places, set(), "places of the number")
+    wanted = {(n, m, which) for n, m in ((256, 16), (256, 1), (9, 16)) for which in ("first", "last", "none")}
+    same((wanted | {(1, 1, "first"), (1, 16, "first"), (1, 1, "none")}) - found, set(), "positions")
+    wanted = {(3, 47), ("empty", 48), (4, 0), (5, "record", 0), ("empty", "clock", 0), (18, "clock", 0)}
+    same(wanted - limits, set(), "limits")
+    return "%d answers" % len(seen)
+
+
 BY_STORE = [whole_case, edges, program_lines, answers, reads, crashes]
 BY_REELS = [reel_numbers, reel_lengths, reel_reads, reel_writes, reel_cases]
+BY_LISTENING = [listening_refusals, listening_begins, listening_finds, listening_runs, listening_cases]
 ALL = [(test, store) for test in BY_STORE + [raw_cases, stream_kinds]]
 ALL += [(test, reels) for test in BY_REELS + [reel_aims]]
+ALL += [(test, listening) for test in BY_LISTENING + [listening_aims]]
 
 
 # ---- faulty copies -------------------------------------------------------
@@ -1043,8 +1339,131 @@ REEL_FAULTS = [
      "    if answer[\"name\"] == \"no\":\n        return store.result(store.said(\"unknown\"))\n"),
 ]
 
-# File, its module, the tests that are run on copies of it, and the faults.
-PLANTED = [("store.py", store, BY_STORE, STORE_FAULTS), ("reels.py", reels, BY_REELS, REEL_FAULTS)]
+# The same, of listening.py. In SHOWN_IF a copy is shown where this holds of its holder e and its place.
+READ_0 = "return store.read(image, desk, session, record)[\"answer\"][\"words\"][0]"
+SHOWN_IF = ("start = desk[\"sessions\"][session][\"number\"]\n"
+            "    for holder, e in enumerate(desk[\"sessions\"]):\n"
+            "        for place, (held, words) in enumerate(store.copies_of(e)):\n"
+            "            if held == record and %s:\n"
+            "                return words[0]\n"
+            "    return store.home(image, record)[0]")
+PUBLISHED = "e[\"phase\"] == \"published\" and e[\"number\"] <= start"
+CHECKS = "    refusal = store.turned_away(desk, session, image, trace, record, \"active\")\n"
+HOLDS_FIRST = (CHECKS + "    if refusal and refusal[\"number\"] == %d"
+               " and desk[\"sessions\"][session %% 16][\"count\"] != 0:\n        return store.no(18)\n")
+FINISH_STOP = ("        return store.result(refusal, desk, image)\n"
+               "    return store.finish(image, desk, trace, session)")
+LISTENING_FAULTS = [
+    ("the last match", "in range(desk[\"N\"])", "in reversed(range(desk[\"N\"]))"),
+    ("the search stops a record early", "in range(desk[\"N\"])", "in range(desk[\"N\"] - 1)"),
+    ("the search starts at record 1", "in range(desk[\"N\"])", "in range(1, desk[\"N\"])"),
+    ("the search looks at 255 records at most", "in range(desk[\"N\"])", "in range(min(255, desk[\"N\"]))"),
+    ("the search takes M for N", "in range(desk[\"N\"])", "in range(min(desk[\"N\"], desk[\"M\"]))"),
+    ("the search ends at an unused record", "in range(desk[\"N\"]):\n",
+     "in range(desk[\"N\"]):\n        if word_0(image, desk, session, record) == 0:\n            break\n"),
+    ("records that another copies passed over", "in range(desk[\"N\"]):\n",
+     "in range(desk[\"N\"]):\n        if desk[\"marks\"][record] is not None:\n            continue\n"),
+    ("records without a copy first", "in range(desk[\"N\"])",
+     "in sorted(range(desk[\"N\"]), key=lambda r: desk[\"marks\"][r] is not None)"),
+    ("records that another copies first", "in range(desk[\"N\"])",
+     "in sorted(range(desk[\"N\"]), key=lambda r: desk[\"marks\"][r] is None)"),
+    ("home records alone", READ_0, "return store.home(image, record)[0]"),
+    ("the search shows sealed copies", READ_0,
+     SHOWN_IF % "e[\"phase\"] in (\"sealed\", \"published\") and e[\"number\"] <= start"),
+    ("the search shows active copies", READ_0,
+     SHOWN_IF % "e[\"phase\"] in (\"active\", \"published\") and e[\"number\"] <= start"),
+    ("the search shows a copy only with end below start", READ_0,
+     SHOWN_IF % "e[\"phase\"] == \"published\" and e[\"number\"] < start"),
+    ("the search shows a copy only with end equal to start", READ_0,
+     SHOWN_IF % "e[\"phase\"] == \"published\" and e[\"number\"] == start"),
+    ("the search shows a copy with any end", READ_0, SHOWN_IF % "e[\"phase\"] == \"published\""),
+    ("the search shows the copies of lower sessions alone", READ_0,
+     SHOWN_IF % ("holder < session and " + PUBLISHED)),
+    ("the search shows the copies of higher sessions alone", READ_0,
+     SHOWN_IF % ("holder > session and " + PUBLISHED)),
+    ("the search shows the first copy of each alone", READ_0, SHOWN_IF % ("place == 0 and " + PUBLISHED)),
+    ("the search passes over the last place of copies", READ_0, SHOWN_IF % ("place < 3 and " + PUBLISHED)),
+    ("home or copy, whichever matches", "if word_0(image, desk, session, record) == number:",
+     "if number in (word_0(image, desk, session, record), store.home(image, record)[0]):"),
+    ("word 1 compared", READ_0, READ_0.replace("[0]", "[1]")),
+    ("any word compared", "if word_0(image, desk, session, record) == number:",
+     "if number in store.read(image, desk, session, record)[\"answer\"][\"words\"]:"),
+    ("the low 32 bits of word 0 compared", READ_0, READ_0 + " % 2 ** 32"),
+    ("the low 63 bits of word 0 compared", READ_0, READ_0 + " % 2 ** 63"),
+    ("found a record too high", "said(\"found\", record)", "said(\"found\", record + 1)"),
+    ("found without the record", "said(\"found\", record)", "said(\"found\")"),
+    ("found with words", "said(\"found\", record)", "said(\"found\", record, store.home(image, record))"),
+    ("none with N", "said(\"none\")", "said(\"none\", desk[\"N\"])"),
+    ("none given as record 0", "said(\"none\")", "said(\"found\")"),
+    ("find makes the session idle", "said(\"found\", record), desk,",
+     "said(\"found\", record), store.made_idle(desk, session),"),
+    ("find without a match makes the session idle", "said(\"none\"), desk,",
+     "said(\"none\"), store.made_idle(desk, session),"),
+    ("999,999 refused", "if not reels.shelf_right(number):",
+     "if not reels.shelf_right(number) or number == 999999:"),
+    ("1 refused", "if not reels.shelf_right(number):", "if not reels.shelf_right(number) or number == 1:"),
+    ("0 taken", "if not reels.shelf_right(number):", "if not reels.shelf_right(number) and number != 0:"),
+    ("1,000,000 taken", "if not reels.shelf_right(number):",
+     "if not reels.shelf_right(number) and number != 1000000:"),
+    ("the low 32 bits of the number alone in range",
+     "if not reels.shelf_right(number):", "if not reels.shelf_right(number % 2 ** 32):"),
+    ("15 never", "if not reels.shelf_right(number):", "if False:"),
+    ("15 after 1", "if not reels.shelf_right(number):",
+     "if not reels.shelf_right(number) and store.image_right(image):"),
+    ("15 after 2", "if not reels.shelf_right(number):",
+     "if not reels.shelf_right(number) and store.coherent(desk):"),
+    ("15 after 4", "if not reels.shelf_right(number):", "if not reels.shelf_right(number) and session < 16:"),
+    ("15 after 6", "if not reels.shelf_right(number):", "if not reels.shelf_right(number)"
+     " and desk[\"sessions\"][session % 16][\"phase\"] == \"active\":"),
+    ("15 after 18", "if not reels.shelf_right(number):", "if not reels.shelf_right(number)"
+     " and desk[\"sessions\"][session % 16][\"count\"] == 0:"),
+    *[("18 before %d" % number, CHECKS, HOLDS_FIRST % number) for number in range(1, 7)],
+    ("18 never", "[\"count\"] != 0:", "[\"count\"] > 4:"),
+    ("18 with two copies or more", "[\"count\"] != 0:", "[\"count\"] > 1:"),
+    ("18 with three copies at most", "[\"count\"] != 0:", "[\"count\"] in (1, 2, 3):"),
+    ("18 where any session holds copies", "if desk[\"sessions\"][session][\"count\"] != 0:",
+     "if any(e[\"count\"] != 0 for e in desk[\"sessions\"]):"),
+    ("10 in place of 18", "return store.no(18)", "return store.no(10)"),
+    ("18 makes the session idle", "    refusal = turned_away(image, desk, session)\n",
+     "    refusal = turned_away(image, desk, session)\n"
+     "    if refusal and refusal[\"number\"] == 18:\n"
+     "        return store.result(refusal, store.made_idle(desk, session), image)\n"),
+    ("read of a session with copies as the store reads", "turned_away(image, desk, session, record=record)",
+     "store.turned_away(desk, session, image, record=record, phase=\"active\")"),
+    ("read refuses by 18 only a record that the session copies",
+     "    refusal = turned_away(image, desk, session, record=record)\n    if refusal:",
+     "    refusal = turned_away(image, desk, session, record=record)\n"
+     "    if refusal and (refusal[\"number\"] != 18 or desk[\"marks\"][record] == session):"),
+    ("read always home", "return store.read(image, desk, session, record)\n\n",
+     "return store.result(store.said(\"home\", words=store.home(image, record)), desk, image)\n\n"),
+    ("finish of a session with copies seals", "turned_away(image, desk, session, trace)",
+     "store.turned_away(desk, session, image, trace, phase=\"active\")"),
+    ("finish with copies empties", FINISH_STOP,
+     "        if refusal[\"number\"] != 18:\n            return store.result(refusal, desk, image)\n"
+     "        return store.result(store.said(\"empty\"), store.made_idle(desk, session), image)\n"
+     "    return store.finish(image, desk, trace, session)"),
+    ("finish checks 10 before 18", FINISH_STOP,
+     "        done = store.finish(image, desk, trace, session)\n"
+     "        return done if done[\"answer\"][\"number\"] else store.result(refusal, desk, image)\n"
+     "    return store.finish(image, desk, trace, session)"),
+    ("finish without copies refused at L", "return store.finish(image, desk, trace, session)",
+     "return store.finish(image, desk, trace, session) if desk[\"clock\"] < store.L \\\n"
+     "        else store.result(store.no(10), desk, image)"),
+    ("finish leaves the session active", "return store.finish(image, desk, trace, session)",
+     "return dict(store.finish(image, desk, trace, session), desk=desk)"),
+    ("find in a session with copies", "turned_away(image, desk, session)\n",
+     "store.turned_away(desk, session, image, phase=\"active\")\n"),
+    ("begin changes nothing", "return store.begin(desk, session)",
+     "return dict(store.begin(desk, session), desk=desk)"),
+    ("begin again by an active session", "return store.begin(desk, session)",
+     "again = session < 16 and desk[\"sessions\"][session][\"phase\"] == \"active\"\n"
+     "    return store.begin(store.made_idle(desk, session) if again else desk, session)"),
+]
+
+# File, its module, the tests that are run on copies of it, those that each must catch every fault alone, and
+# the faults.
+PLANTED = [("store.py", store, BY_STORE, [], STORE_FAULTS), ("reels.py", reels, BY_REELS, [], REEL_FAULTS),
+           ("listening.py", listening, BY_LISTENING, [listening_cases], LISTENING_FAULTS)]
 
 
 def faulty(name, old, new):
@@ -1070,7 +1489,7 @@ def run_all():
     for test, model in ALL:
         passed, remark = outcome(test, model)
         good = good and passed
-        print("%-14s %s %s" % (test.__name__, "ok" if passed else "FAILED", remark), flush=True)
+        print("%-18s %s %s" % (test.__name__, "ok" if passed else "FAILED", remark), flush=True)
     print("all ok" if good else "FAILED")
     return good
 
@@ -1083,12 +1502,14 @@ def catching(tests, model):
 def run_faults():
     global SHARE
     SHARE, planted, missed = 0.3, 0, 0
-    for file, model, tests, faults in PLANTED:
+    for file, model, tests, alone, faults in PLANTED:
         same(catching(tests, model), [], "no fault in " + file)
         for name, old, new in faults:
             caught = catching(tests, faulty(file, old, new))
-            planted, missed = planted + 1, missed + (not caught)
-            print("%-62s %s" % (name, ", ".join(caught) or "NOT CAUGHT"), flush=True)
+            without = [test.__name__ for test in alone if test.__name__ not in caught]
+            planted, missed = planted + 1, missed + (not caught or bool(without))
+            print("%-62s %s%s" % (name, ", ".join(caught) or "NOT CAUGHT",
+                                  "".join(", NOT BY " + test for test in without)), flush=True)
     print("%d faults, %d not caught" % (planted, missed))
     return missed == 0
 

@@ -26,9 +26,10 @@ use Rattle.codec.specs.declared.step.Step.the-variants.{Lay as LayStep, Begin, 
 use Rattle.steps.specs.Apply.{appliedOf, appliedEntries}
 use Rattle.cases.specs.Coded.{coded, codedOf, answeredOf}
 use Rattle.cases.specs.AskReel.{reelAnswered}
+use Rattle.cases.specs.AskListening.{listeningAnswered}
 use Rattle.cases.specs.declared.told.Coded.{Coded}
 use Rattle.cases.specs.declared.asking.Request.{Request}
-use Rattle.cases.specs.declared.asking.Request.the-variants.{Lay, Open, Recover, Session, Reel}
+use Rattle.cases.specs.declared.asking.Request.the-variants.{Lay, Open, Recover, Session, Reel, Listening}
 use Rattle.cases.specs.declared.asking.Answered.{Answered}
 
 -- lay leaves no desk: it is the one that was given
@@ -86,6 +87,7 @@ askedOf img d len Open ws = openAnswered img
 askedOf img d len Recover ws = recoverAnswered img d len
 askedOf img d len (Session step) ws = stepAnswered img d len step ws
 askedOf img d len (Reel call) ws = reelAnswered img d call ws
+askedOf img d len (Listening call) ws = listeningAnswered img d len call
 
 -- the image that it leaves
 unfoldable pub askedImage : List ℕ → Desk → ℕ → Request → List ℕ
@@ -94,6 +96,7 @@ askedImage img d len Open = img
 askedImage img d len Recover = recoverImage img len
 askedImage img d len (Session step) = stepImage img d len step
 askedImage img d len (Reel call) = img
+askedImage img d len (Listening call) = img
 
 -- the trace that it leaves
 unfoldable pub askedTrace : List ℕ → Desk → List ℕ → Request → List ℕ
@@ -102,3 +105,4 @@ askedTrace img d trace Open = trace
 askedTrace img d trace Recover = recoverTrace img trace
 askedTrace img d trace (Session step) = stepTrace img d trace step
 askedTrace img d trace (Reel call) = trace
+askedTrace img d trace (Listening call) = trace

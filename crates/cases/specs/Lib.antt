@@ -2,4 +2,5 @@ pub mod Digest
 pub mod Words
 pub mod Coded
 pub mod AskReel
+pub mod AskListening
 pub mod Ask

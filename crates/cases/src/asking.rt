@@ -5,6 +5,8 @@ ghost use Rattle.layout.specs.Lay.{laidImage};
 ghost use Rattle.cases.specs.Ask.{layAnswered, openAnswered, recoverAnswered, stepAnswered};
 ghost use Rattle.cases.specs.Ask.{recoverImage, recoverTrace, stepImage, stepTrace, askedOf, askedImage, askedTrace};
 ghost use Rattle.cases.specs.Coded.{answeredOf};
+use crate::listening_asking::ListeningRequest;
+use crate::listening_asking::ask_listening;
 use crate::reel_asking::ReelRequest;
 use crate::reel_asking::ask_reel;
 use crate::told::Coded;
@@ -15,14 +17,15 @@ use crate::told::recover_told;
 use codec::Step;
 use store::Desk;
 
-// A call and its arguments but the desk, the image and the trace: lay with N and M, open, recover, the session call of a step, or a call of
-// the reel library.
+// A call and its arguments but the desk, the image and the trace: lay with N and M, open, recover, the session call of a step, a call of
+// the reel library, or one of the listening room.
 pub enum Request {
     Lay(u64, u64),
     Open,
     Recover,
     Session(Step),
     Reel(ReelRequest),
+    Listening(ListeningRequest),
 }
 
 // What a call answered: zeros where it has no value, words or entries; the desk that was given where it leaves none.
@@ -109,5 +112,6 @@ pub fn ask(
         Request::Recover => ask_recover(image, desk, trace),
         Request::Session(step) => ask_step(image, desk, trace, step, words),
         Request::Reel(r) => ask_reel(image, desk, r, words),
+        Request::Listening(r) => ask_listening(image, desk, trace, r),
     }
 }

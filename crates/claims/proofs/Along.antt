@@ -1,20 +1,22 @@
 -- Along any list of calls image and desk stay ready, the invariant holds, and the ledger's desk is the store's.
 use Prim.Native.Nat.{ℕ, _<_}
-use mathlib.Core.Path.{_≡_, refl, sym, ap, _∙_}
-use mathlib.Core.Bool.{true}
+use mathlib.Core.Path.{_≡_, refl, sym, ap, _∙_, subst}
+use mathlib.Core.Bool.{Bool, true, false, cond}
 use mathlib.Core.List.{List, [], _∷_}
 use lib.ListN.{getD}
 use Rattle.layout.specs.Entries.{made, endsFenced}
 use Rattle.layout.specs.Image.{recordsOf, sessionsOf}
-use Rattle.layout.specs.Told.{Told, ok}
-use Rattle.history.specs.Call.{Call, begin, read, write, abandon, finish, publish, settle, reclaim}
+use Rattle.layout.specs.Told.{Told, ok, isRefusal}
+use Rattle.history.specs.Call.{Listening, Begin, Read, Finish, Find, Call, begin, read, write, abandon, finish, publish, settle, reclaim, listen}
 use Rattle.history.specs.Desk.{Desk as Txns}
 use Rattle.history.specs.Due.{Due, dueOf, due}
 use Rattle.history.specs.Layout.{view}
 use Rattle.history.specs.Ledger.{noteDesk, note}
+use Rattle.history.specs.Looks.{noLooks, looksIn, dueLooks}
 use Rattle.history.proofs.Calls.{Held, due-done, due-held}
 use Rattle.history.proofs.Cuts.{made-append, ends-append}
 use Rattle.claims.specs.Rules.{storeRules}
+use Rattle.claims.specs.Demands.{SameLooks}
 use Rattle.claims.specs.Run.{World, opened, reply, step, run, stored}
 use Rattle.claims.proofs.Abstraction.{abs}
 use Rattle.claims.proofs.Lists.{lists}
@@ -25,6 +27,7 @@ use Rattle.claims.proofs.SimulateWrite.{write-sim}
 use Rattle.claims.proofs.SimulateFinish.{finish-sim}
 use Rattle.claims.proofs.SimulateSettle.{settle-sim}
 use Rattle.claims.proofs.SimulateReclaim.{reclaim-sim}
+use Rattle.claims.proofs.SimulateListening.{listen-begin-sim, listen-read-sim, listen-finish-sim, find-told-sim, find-looks-sim}
 use Rattle.claims.proofs.Opening.{opens-desk, opens-ready, opens-numbers, opens-holds, fresh-idle}
 use Rattle.claims.proofs.ReadyKept.{whole-of, ready-kept}
 use Rattle.claims.proofs.Recovering.{whole-again}
@@ -49,6 +52,13 @@ module _ (N M : ℕ) (w : World) (a : Along N M w) where
   abbrev Same : Call → Due → Type 0
   Same c y = Sim c (view N (w .image) .number) (w .desk) (reply storeRules w c .told) (reply storeRules w c .entries) (reply storeRules w c .desk) y
 
+  listening-here : (c : Listening) → Same (listen c) (dueHere (listen c))
+  unfolding reply
+  listening-here (Begin s) = listen-begin-sim N M (w .image) (w .desk) _ (w .ledger .history) (a .ready) s
+  listening-here (Read s r) = listen-read-sim N M (w .image) (w .desk) _ (w .ledger .history) (a .ready) s (rw (a .linked) at (a .held .holds)) r
+  listening-here (Finish len s) = listen-finish-sim N M (w .image) (w .desk) _ (w .ledger .history) (a .ready) s len
+  listening-here (Find s k) = find-told-sim N M (w .image) (w .desk) _ (w .ledger .history) (a .ready) s (rw (a .linked) at (a .held .holds)) k
+
   same-here : (c : Call) → Same c (dueHere c)
   unfolding reply
   same-here (begin s) = begin-sim N M (w .image) (w .desk) s _ (w .ledger .history) (a .ready)
@@ -59,9 +69,43 @@ module _ (N M : ℕ) (w : World) (a : Along N M w) where
   same-here (publish s) = publish-sim N M (w .image) (w .desk) s _ (w .ledger .history) (a .ready)
   same-here (settle len s) = settle-sim N M (w .image) (w .desk) _ (w .ledger .history) len s (a .ready)
   same-here (reclaim len s) = reclaim-sim N M (w .image) (w .desk) (w .ledger .history) len s (a .ready)
+  same-here (listen c) = listening-here c
 
   pub same : (c : Call) → Same c (due N M (w .ledger) c)
   same c = rw (due-here c) (same-here c)
+
+  -- and looks at the records that are due
+  abbrev SameLooksHere : Call → Type 0
+  SameLooksHere c = SameLooks (reply storeRules w c .looks) (cond (isRefusal (dueHere c .answer)) noLooks (looksIn N M (abs (w .desk)) (w .ledger .history) c))
+
+  unlooked : (c : Call) → SameLooks noLooks (cond (isRefusal (dueHere c .answer)) noLooks noLooks)
+  unlooked c = go (isRefusal (dueHere c .answer))
+    where
+      go : (b : Bool) → SameLooks noLooks (cond b noLooks noLooks)
+      go true = record { number = refl; gives = λ r l. refl }
+      go false = record { number = refl; gives = λ r l. refl }
+
+  looks-here : (c : Call) → SameLooksHere c
+  unfolding reply
+  looks-here (begin s) = unlooked (begin s)
+  looks-here (read s r) = unlooked (read s r)
+  looks-here (write s r ws) = unlooked (write s r ws)
+  looks-here (abandon s) = unlooked (abandon s)
+  looks-here (finish len s) = unlooked (finish len s)
+  looks-here (publish s) = unlooked (publish s)
+  looks-here (settle len s) = unlooked (settle len s)
+  looks-here (reclaim len s) = unlooked (reclaim len s)
+  looks-here (listen (Begin s)) = unlooked (listen (Begin s))
+  looks-here (listen (Read s r)) = unlooked (listen (Read s r))
+  looks-here (listen (Finish len s)) = unlooked (listen (Finish len s))
+  looks-here (listen (Find s k)) =
+      find-looks-sim N M (w .image) (w .desk) (view N (w .image) .number) (w .ledger .history) (a .ready) s (rw (a .linked) at (a .held .holds)) k
+
+  pub same-looks : (c : Call) → SameLooks (reply storeRules w c .looks) (dueLooks N M (w .ledger) c)
+  unfolding dueLooks
+  same-looks c =
+      subst (λ (x : Txns). SameLooks (reply storeRules w c .looks) (cond (isRefusal (due N M (w .ledger) c .answer)) noLooks (looksIn N M x (w .ledger .history) c)))
+      (sym (a .linked)) (rw (due-here c) (looks-here c))
 
   step-held : (c : Call) → Held N M (made (reply storeRules w c .entries) (w .image)) (note c (reply storeRules w c .told) (w .ledger))
   step-held c = rw (same c .stored, same c .answers) (due-held N M (w .image) (w .ledger) (a .held) c)
@@ -108,6 +152,10 @@ call-fenced w (finish len s) = lists .finish (w .image) (w .desk) len s .fenced
 call-fenced w (publish s) = refl
 call-fenced w (settle len s) = lists .settle (w .image) (w .desk) len s .fenced
 call-fenced w (reclaim len s) = lists .reclaim (w .image) (w .desk) len s .fenced
+call-fenced w (listen (Begin s)) = refl
+call-fenced w (listen (Read s r)) = refl
+call-fenced w (listen (Finish len s)) = refl
+call-fenced w (listen (Find s k)) = refl
 
 pub stored-fenced : (calls : List Call) (w : World) → endsFenced (stored storeRules calls w) ≡ true
 unfolding stored

@@ -1,12 +1,12 @@
 -- The impostors fail on short computed runs. Where an impostor does what the store does, its run is the one that is due, which is computed
 -- from the ledger alone.
-use Prim.Native.Nat.{ℕ, zero, suc, _<_}
+use Prim.Native.Nat.{ℕ, zero, suc, _-_, _<_}
 use mathlib.Core.Bool.{Bool, true, false, cond, _&&_, not, false≢true}
 use mathlib.Core.List.{List, [], _∷_, _++_, append-nil, append-assoc}
 use mathlib.Core.Option.{some}
 use mathlib.Core.Path.{_≡_, refl, sym, ap, _∙_, subst, fun-ext}
 use native.Mathlib.Omega.{arith}
-use borrow.Author.Tests.{eqb-false, lt-ltb}
+use borrow.Author.Tests.{eqb-true, eqb-false, lt-ltb}
 use lib.ListN.{length, getD, take, set}
 use lib.Dec.{eqb, ltb}
 use Rattle.layout.proofs.BelowLaws.{lowest-some}
@@ -15,9 +15,9 @@ use Rattle.layout.specs.Checks.{first, answered}
 use Rattle.layout.specs.Crash.{arrived}
 use Rattle.layout.specs.Entries.{Entry, store, fence, made, endsFenced}
 use Rattle.layout.specs.Homes.{homesWrites}
-use Rattle.layout.specs.Image.{shapedB, occupiedB, slotAt}
+use Rattle.layout.specs.Image.{shapedB, occupiedB, homeWords, slotAt}
 use Rattle.layout.specs.Lay.{emptyImage}
-use Rattle.layout.specs.Told.{Told, ok, start, home, wait, held, clean, replayed, codeTold, isRefusal, valueOf, wordsTold}
+use Rattle.layout.specs.Told.{Told, ok, start, home, wait, nothing, held, clean, replayed, foundAt, codeTold, is, isRefusal, valueOf, wordsTold, None}
 use Rattle.layout.proofs.Says.{by-test}
 use Rattle.journal.specs.Log.{bodyWrites, unsoundB, sharedB}
 use Rattle.layout.specs.Oldest.{oldestOf}
@@ -31,17 +31,18 @@ use Rattle.commit.specs.Settle.{endOf, startBelow, startsFor}
 use Rattle.commit.specs.Reclaim.{clearEntries}
 use Rattle.recovery.specs.Open.{openFault, openReply}
 use Rattle.recovery.specs.Recover.{unsoundPlace, tiedBelow, tiesB, recoverFault, firstLog, recoverRefused, recoverReply, recoverEntries}
-use Rattle.history.specs.Call.{Call, begin, read, write, finish, publish, settle, reclaim}
+use Rattle.history.specs.Call.{Begin, Find, Call, begin, read, write, finish, publish, settle, reclaim, listen}
 use Rattle.history.specs.Desk.{Copy, Session as Txn, idle, active, sealed, published, Desk as Txns, upd, firstOf, holder}
 use Rattle.history.specs.Due.{smallest, due}
 use Rattle.history.specs.Cut.{feedCut}
 use Rattle.history.specs.History.{History, feed}
 use Rattle.history.specs.Ledger.{Ledger, note}
-use Rattle.claims.specs.Rules.{Reply, Rules, storeRules}
+use Rattle.history.specs.Looks.{Looks}
+use Rattle.claims.specs.Rules.{Reply, Rules, searching, storeRules}
 use Rattle.claims.specs.Run.{World, opened, openLedger, reply, step, run, stored}
 use Rattle.claims.specs.Recovery.{replays, afterCalls, afterStop, afterAttempts, afterWhole, Ends}
-use Rattle.claims.specs.Demands.{Demand2, Demand3, Cut, during, cutImage, cutHistory, Recovered}
-use Rattle.claims.specs.Impostors.{Impostors, Change, kindOf, past, telling, relisting, zeroing, miscounting, clearingEarly, waitingForAll, showingSealed, busyOther, heldSealed, sealedCopy, turnsAway, waitsAtOnce, holdsAtOnce, readsZeros, zeroed, doesNothing, storesNothing, saysClean, clearing, clearsOthers, withoutLast, unfencedAt, replaysOne, miscounts, unfenced, oneGroup, sessionOrder, clearsEarly, waitsForAll, showsSealed, namingBy, names, lowestReader, lastReader, newestReader}
+use Rattle.claims.specs.Demands.{Demand2, Demand3, Cut, during, cutImage, cutHistory, FindRight, Recovered}
+use Rattle.claims.specs.Impostors.{Impostors, Change, kindOf, past, telling, relisting, zeroing, miscounting, clearingEarly, waitingForAll, showingSealed, busyOther, heldSealed, sealedCopy, turnsAway, waitsAtOnce, holdsAtOnce, readsZeros, zeroed, doesNothing, storesNothing, saysClean, clearing, clearsOthers, withoutLast, unfencedAt, replaysOne, miscounts, unfenced, oneGroup, sessionOrder, clearsEarly, waitsForAll, showsSealed, namingBy, names, lowestReader, lastReader, newestReader, asRead, asHome, Search, firstEnd, lastEnd, earlyEnd, findingBy, findsBy}
 use Rattle.claims.proofs.Abstraction.{txn-of, copiesOf, pack, marked}
 use Rattle.claims.proofs.Entering.{holder-named}
 use Rattle.claims.proofs.Along.{Along, same, step-along, run-along, opened-along, call-fenced}
@@ -630,6 +631,126 @@ clears-early h = unlike (recovers clearsEarly h cut _ _ image-is history-is (48 
     history-is : cutHistory clearsEarly image cut ≡ expected calls .ledger .history
     history-is = history-expected clearsEarly calls (search depth 12) (reclaim 48 0) 2 (λ n. true) _ refl _ image-is
 
+-- ---- find
+
+-- session 1 publishes record 0 with x as its first word, session 2 record 1 with 5; then session 0 listens
+abbrev shelving : ℕ → List Call
+shelving x = sealing 1 0 x ++ publish 1 ∷ sealing 2 1 5 ++ publish 2 ∷ listen (Begin 0) ∷ []
+
+abbrev seeking : Call
+seeking = listen (Find 0 5)
+
+-- the first of two that passes a test
+first-of-two : (p : ℕ → Bool) (a b : Bool) → p 0 ≡ a → p 1 ≡ b → lowest 2 p ≡ cond a 0 (cond b 1 2)
+unfolding lowest
+first-of-two p true b x y = rw x refl
+first-of-two p false true x y = rw (x, y) refl
+first-of-two p false false x y = rw (x, y) refl
+
+-- the test that an impostor's search makes
+abbrev passes : (List ℕ → Desk → ℕ → ℕ → Told) → List Call → ℕ → Bool
+passes look calls r = eqb (getD (wordsTold (look (after calls .image) (after calls .desk) 0 r)) 0 0) 5
+
+-- by the store's read it is what is due, by the home record what stands in the image
+read-passes : (calls : List Call) (r : ℕ) → passes asRead calls r ≡ eqb (getD (wordsTold (due 2 4 (expected calls .ledger) (read 0 r) .answer)) 0 0) 5
+unfolding reply
+read-passes calls r = ap (λ (t : Told). eqb (getD (wordsTold t) 0 0) 5) (told-next calls (read 0 r))
+
+home-passes : (calls : List Call) (r : ℕ) → passes asHome calls r ≡ eqb (getD (homeWords (expected calls .image) r) 0 0) 5
+home-passes calls r = ap (λ (v : Seen). eqb (getD (homeWords (v .image) r) 0 0) 5) (after-expected calls)
+
+module _ (look : List ℕ → Desk → ℕ → ℕ → Told) (seek : ℕ → (ℕ → Bool) → Search) (calls : List Call)
+    (n : isRefusal (due 2 4 (expected calls .ledger) seeking .answer) ≡ false) (a : Alike (opening-as (findsBy look seek)) calls) where
+  -- what the impostor tells, and the records that it looks at
+  abbrev tells-here : Told
+  tells-here = seek 2 (passes look calls) .told
+
+  abbrev looks-here : Looks
+  looks-here = record { number = seek 2 (passes look calls) .number; gives = look (after calls .image) (after calls .desk) 0 }
+
+  gives-here : reply (opening-as (findsBy look seek)) (after calls) seeking ≡ searching tells-here (after calls .desk) looks-here
+  gives-here =
+      changed 19 (findingBy look seek) calls seeking refl n
+      ∙ ap (λ m. searching (seek m (passes look calls) .told) (after calls .desk) (record { number = seek m (passes look calls) .number; gives = look (after calls .image) (after calls .desk) 0 }))
+      (along calls .ready .n-same)
+
+  -- demand 2
+  found-due : Demand2 (findsBy look seek) → tells-here ≡ due 2 4 (expected calls .ledger) seeking .answer
+  found-due h = ap (λ (y : Reply). y .told) (sym gives-here) ∙ answers (findsBy look seek) calls a h seeking
+
+  -- demand 3, of a cut behind the search
+  abbrev found-cut : Cut
+  found-cut = during (calls ++ (seeking ∷ [])) (begin 0) 0 (λ i. true)
+
+  found-history : cutHistory (findsBy look seek) image found-cut ≡ expected calls .ledger .history
+  unfolding step note
+  found-history =
+      ap (λ (w : World). w .ledger .history) (run-last (opening-as (findsBy look seek)) calls seeking (opened storeRules image))
+      ∙ ap (λ (w : World). w .ledger .history) (ran (findsBy look seek) calls a)
+      ∙ ap (λ (v : Seen). v .ledger .history) (after-expected calls)
+
+  abbrev Finds : History → History → Told → Looks → Type 0
+  Finds h g t x = FindRight h (g .start 0) 2 5 t x
+
+  found-right : Demand3 (findsBy look seek) → Finds (expected calls .ledger .history) (expected calls .ledger .history) tells-here looks-here
+  found-right d =
+      let cut = cutHistory (findsBy look seek) image found-cut in
+      subst (λ (v : Seen). Finds (expected calls .ledger .history) (v .ledger .history) tells-here looks-here) (after-expected calls)
+      (subst (λ (h : History). Finds h (after calls .ledger .history) tells-here looks-here) found-history
+      (subst (λ (y : Reply). Finds cut (after calls .ledger .history) (y .told) (y .looks)) gives-here
+      (subst (λ (w : World). Finds cut (w .ledger .history) (reply (findsBy look seek) w seeking .told) (reply (findsBy look seek) w seeking .looks)) (ran (findsBy look seek) calls a)
+      (d image opens found-cut [] .reads calls [] seeking refl))))
+
+-- record 0 is due, by its shown copy; the home records are zeros
+home-search : firstEnd 2 (passes asHome (shelving 5)) ≡ record { told = nothing; number = 2 }
+unfolding expected
+home-search = rw (first-of-two (passes asHome (shelving 5)) false false (home-passes (shelving 5) 0) (home-passes (shelving 5) 1)) refl
+
+finds-home : Demand2 (findsBy asHome firstEnd) → ⊥
+unfolding expected
+finds-home h = unlike-told (ap (λ (x : Search). x .told) (sym home-search) ∙ found-due asHome firstEnd (shelving 5) refl (search depth 14) h) refl
+
+looks-home : Demand3 (findsBy asHome firstEnd) → ⊥
+unfolding expected
+looks-home h =
+    unlike
+    (ap (λ (v : Seen). homeWords (v .image) 0) (sym (after-expected (shelving 5)))
+    ∙ found-right asHome firstEnd (shelving 5) refl (search depth 14) h .each 0 (omega (arith, ap (λ (x : Search). x .number) home-search)) .home refl) refl
+
+-- both records have the number
+last-search : lastEnd 2 (passes asRead (shelving 5)) ≡ record { told = foundAt 1; number = 2 }
+unfolding expected
+last-search = rw (first-of-two (λ r. passes asRead (shelving 5) (2 - 1 - r)) true true (read-passes (shelving 5) 1) (read-passes (shelving 5) 0)) refl
+
+finds-last : Demand2 (findsBy asRead lastEnd) → ⊥
+unfolding expected
+finds-last h =
+    eqb-false _ _ refl
+    (ap valueOf (ap (λ (x : Search). x .told) (sym last-search) ∙ found-due asRead lastEnd (shelving 5) refl (search depth 14) h))
+
+looks-last : Demand3 (findsBy asRead lastEnd) → ⊥
+unfolding expected
+looks-last h =
+    eqb-false _ _ refl
+    (ap valueOf (ap (λ (x : Search). x .told) (sym last-search)
+    ∙ found-right asRead lastEnd (shelving 5) refl (search depth 14) h .first 0 (omega (arith, ap (λ (x : Search). x .number) last-search)) (eqb-true _ 5 (read-passes (shelving 5) 0))))
+
+-- only the last record has it
+early-search : earlyEnd 2 (passes asRead (shelving 9)) ≡ record { told = nothing; number = 1 }
+unfolding expected
+early-search = rw (read-passes (shelving 9) 0) refl
+
+stops-early : Demand2 (findsBy asRead earlyEnd) → ⊥
+unfolding expected
+stops-early h = unlike-told (ap (λ (x : Search). x .told) (sym early-search) ∙ found-due asRead earlyEnd (shelving 9) refl (search depth 14) h) refl
+
+looks-early : Demand3 (findsBy asRead earlyEnd) → ⊥
+unfolding expected
+looks-early h =
+    eqb-false _ _ refl
+    (ap (λ (x : Search). x .number) (sym early-search)
+    ∙ found-right asRead earlyEnd (shelving 9) refl (search depth 14) h .none (ap (λ (x : Search). is None (x .told)) early-search))
+
 -- ---- the rule of a call's list
 
 miscounted : ((img : List ℕ) (e : Desk) (len s : ℕ)
@@ -668,4 +789,10 @@ impostors =
       names-lowest = names-lowest;
       names-last = names-last;
       names-newest = names-newest;
+      finds-home = finds-home;
+      finds-last = finds-last;
+      stops-early = stops-early;
+      looks-home = looks-home;
+      looks-last = looks-last;
+      looks-early = looks-early;
     }

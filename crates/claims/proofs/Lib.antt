@@ -14,6 +14,7 @@ pub mod SimulateFinish
 pub mod SimulateSettle
 pub mod SimulateReclaim
 pub mod SimulateRead
+pub mod SimulateListening
 pub mod Recovering
 pub mod SteadyCalls
 pub mod Opening
@@ -23,6 +24,7 @@ pub mod Views
 pub mod CutRecovers
 pub mod Rows
 pub mod Refusals
+pub mod CallsRight
 pub mod Demands
 pub mod Lives
 pub mod Impostors

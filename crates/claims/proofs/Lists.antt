@@ -2,6 +2,7 @@
 use mathlib.Core.Path.{refl}
 use Rattle.commit.proofs.Lists.{finish-tidy, settle-tidy, reclaim-tidy, finish-length, settle-length}
 use Rattle.recovery.proofs.Lists.{recover-tidy, recover-length}
+use Rattle.listening.proofs.FinishLaws.{no-entries}
 use Rattle.claims.specs.Lists.{Lists}
 
 pub lists : Lists
@@ -10,6 +11,7 @@ lists =
       finish = finish-tidy;
       settle = settle-tidy;
       reclaim = reclaim-tidy;
+      listen-finish = no-entries;
       recover = recover-tidy;
       finish-count = finish-length;
       settle-count = settle-length;

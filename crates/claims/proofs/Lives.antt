@@ -6,11 +6,11 @@ use mathlib.Core.List.{List, [], _∷_, _++_}
 use Rattle.layout.specs.Image.{recordsOf, homeWords}
 use Rattle.layout.specs.Told.{Told, ok, is, refusedBy, valueOf, Ok, Start, Sealed, End}
 use Rattle.layout.proofs.Says.{by-test}
-use Rattle.history.specs.Call.{Call, begin, read, write, abandon, finish, publish, settle, reclaim}
+use Rattle.history.specs.Call.{Listening, Begin, Read, Finish, Find, Call, begin, read, write, abandon, finish, publish, settle, reclaim, listen}
 use Rattle.history.specs.Cut.{numberArrived, feedCut}
 use Rattle.history.specs.Desk.{Desk, find}
 use Rattle.history.specs.Due.{fourWords}
-use Rattle.history.specs.History.{Seal, History, feed, over, applied}
+use Rattle.history.specs.History.{Seal, History, feedListening, feed, over, applied}
 use Rattle.history.specs.Ledger.{note}
 use Rattle.claims.specs.Rules.{Rules, storeRules}
 use Rattle.claims.specs.Run.{World, opened, reply, step, run}
@@ -35,8 +35,14 @@ applied-four (x ∷ xs) r y z e = applied-four xs r _ _ (go (find r (x .draft)))
 
 -- ---- the opening records stay in the history
 
+listening-opening : (c : Listening) (t : Told) (h : History) → feedListening c t h .opening ≡ h .opening
+listening-opening (Begin s) t h = by-test (is Start t) (λ e. rw e refl) (λ e. rw e refl)
+listening-opening (Read s r) t h = refl
+listening-opening (Finish len s) t h = refl
+listening-opening (Find s k) t h = refl
+
 feed-opening : (c : Call) (t : Told) (h : History) → feed c t h .opening ≡ h .opening
-feed-opening (begin s) t h = by-test (is Start t) (λ e. rw e refl) (λ e. rw e refl)
+feed-opening (begin s) t h = listening-opening (Begin s) t h
 feed-opening (read s r) t h = refl
 feed-opening (write s r ws) t h =
     by-test (is Ok t) (λ e. rw e refl) (λ e. by-test (refusedBy 7 t) (λ k. rw (e, k) refl) (λ k. rw (e, k) refl))
@@ -45,6 +51,7 @@ feed-opening (finish len s) t h = by-test (is Sealed t) (λ e. rw e refl) (λ e.
 feed-opening (publish s) t h = by-test (is End t) (λ e. rw e refl) (λ e. rw e refl)
 feed-opening (settle len s) t h = refl
 feed-opening (reclaim len s) t h = refl
+feed-opening (listen c) t h = listening-opening c t h
 
 cut-opening : (N : ℕ) (d : Desk) (c : Call) (t : Told) (img : List ℕ) (h : History) → feedCut N d c t img h .opening ≡ h .opening
 cut-opening N d (begin s) t img h = refl
@@ -54,6 +61,7 @@ cut-opening N d (abandon s) t img h = refl
 cut-opening N d (publish s) t img h = refl
 cut-opening N d (settle len s) t img h = refl
 cut-opening N d (reclaim len s) t img h = refl
+cut-opening N d (listen c) t img h = refl
 cut-opening N d (finish len s) t img h =
     by-test (is Sealed t) (λ e. by-test (numberArrived N d s (valueOf t) img) (λ k. rw (e, k) refl) (λ k. rw (e, k) refl)) (λ e. rw e refl)
 

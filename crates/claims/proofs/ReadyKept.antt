@@ -3,13 +3,13 @@ use Prim.Native.Nat.{ℕ}
 use mathlib.Core.Path.{_≡_, refl, _∙_}
 use mathlib.Core.List.{List}
 use Rattle.desk.specs.declared.state.Desk.{Desk}
-use Rattle.history.specs.Call.{Call, begin, read, write, abandon, finish, publish, settle, reclaim}
-use Rattle.claims.specs.Rules.{storeRules}
+use Rattle.history.specs.Call.{Listening, Begin, Read, Finish, Find, Call, begin, read, write, abandon, finish, publish, settle, reclaim, listen}
+use Rattle.claims.specs.Rules.{listeningCall, storeRules}
 use Rattle.claims.specs.Run.{World, reply}
 use Rattle.claims.proofs.Recovering.{Whole}
 use Rattle.claims.proofs.Simulation.{Ready}
 use Rattle.claims.proofs.Steady.{Steady, Kept}
-use Rattle.claims.proofs.SteadyCalls.{begin-kept, abandon-kept, publish-kept, write-kept, finish-kept, settle-kept, read-desk, reclaim-desk}
+use Rattle.claims.proofs.SteadyCalls.{begin-kept, abandon-kept, publish-kept, write-kept, finish-kept, settle-kept, read-desk, reclaim-desk, listen-finish-kept, listen-read-desk, find-desk}
 
 pub whole-of : (N M : ℕ) (img : List ℕ) (d : Desk) → Ready N M img d → Whole N M img
 whole-of N M img d h = record { shaped = h .shaped; records = h .records; sessions = h .sessions }
@@ -19,6 +19,13 @@ steady-of N M img d h = record { coherent = h .coherent; sized = record { holder
 
 stays : (d e : Desk) → Steady d → e ≡ d → Kept d e
 stays d e h q = rw q (record { steady = h; n-same = refl; m-same = refl })
+
+-- the listening room's calls keep the desk steady
+listening-kept : (img : List ℕ) (d : Desk) (c : Listening) → Steady d → Kept d (listeningCall img d c .desk)
+listening-kept img d (Begin s) h = begin-kept d s h
+listening-kept img d (Read s r) h = stays d _ h (listen-read-desk img d s r)
+listening-kept img d (Finish len s) h = listen-finish-kept img d len s h
+listening-kept img d (Find s k) h = stays d _ h (find-desk img d s k)
 
 -- every call keeps the desk steady
 desk-kept : (w : World) (c : Call) → Steady (w .desk) → Kept (w .desk) (reply storeRules w c .desk)
@@ -31,6 +38,7 @@ desk-kept w (finish len s) h = finish-kept (w .image) (w .desk) len s h
 desk-kept w (publish s) h = publish-kept (w .desk) s h
 desk-kept w (settle len s) h = settle-kept (w .image) (w .desk) len s h
 desk-kept w (reclaim len s) h = stays (w .desk) _ h (reclaim-desk (w .image) (w .desk) len s)
+desk-kept w (listen c) h = listening-kept (w .image) (w .desk) c h
 
 pub ready-kept : (N M : ℕ) (w : World) (c : Call) (img′ : List ℕ) → Ready N M (w .image) (w .desk) → Whole N M img′ → Ready N M img′ (reply storeRules w c .desk)
 ready-kept N M w c img′ h g =

@@ -25,14 +25,14 @@ use Rattle.reels.specs.Read.{reelRead, readReelReply}
 use Rattle.reels.specs.Write.{writeReelReply}
 use Rattle.reels.specs.declared.reel.Reel.{Reel}
 use Rattle.reels.proofs.Laws.{good-unpacks}
-use Rattle.history.specs.Call.{Call, begin, read, write, abandon, finish, publish, settle, reclaim}
+use Rattle.history.specs.Call.{Listening, Begin, Read, Finish, Find, Call, begin, read, write, abandon, finish, publish, settle, reclaim, listen}
 use Rattle.history.specs.Desk.{find, Session, idle, active, sealed, published, Desk, upd, withSession}
 use Rattle.history.specs.Due.{refuse, reads, wrote, due}
-use Rattle.history.specs.Ledger.{Ledger, copying, sealedWith, endedWith, ticked, noteDesk, note}
+use Rattle.history.specs.Ledger.{Ledger, copying, sealedWith, endedWith, ticked, noteListening, noteDesk, note}
 use Rattle.history.proofs.Copies.{upd-same, find-put-same, find-put-other}
 use Rattle.claims.specs.Rules.{storeRules}
 use Rattle.claims.specs.Run.{World, opened, reply, step, run}
-use Rattle.claims.specs.ReelsBack.{besides, allBesides, ownReel, behind, Back, SameReel, ReelsBack}
+use Rattle.claims.specs.ReelsBack.{besidesListening, besides, allBesides, ownReel, behind, Back, SameReel, ReelsBack}
 use Rattle.claims.proofs.Demands.{demand2}
 use Rattle.claims.proofs.SteadyCalls.{read-desk}
 use Rattle.claims.proofs.Views.{run-append}
@@ -81,10 +81,16 @@ module _ (s r : ℕ) (ws : List ℕ) where
   ended-holds n (sealed m q cs) h = tt
   ended-holds n (published e q cs) h = tt
 
+  listening-holds : (c : Listening) (t : Told) (d : Desk) → besidesListening s c ≡ true → HoldsIn d → HoldsIn (noteListening c t d)
+  listening-holds (Begin u) t d b h =
+      either (is Start t) _ d (entered u _ d (λ e. absurd (false≢true (sym (ap not (eq-eqb u s e)) ∙ b))) h) h
+  listening-holds (Read u q) t d b h = h
+  listening-holds (Finish len u) t d b h = either (is Empty t) _ d (entered u idle d (λ e. tt) h) h
+  listening-holds (Find u k) t d b h = h
+
   -- no call between ends it but by ending the transaction
   note-holds : (c : Call) (t : Told) (f : ℕ → ℕ) (d : Desk) → besides s r c ≡ true → HoldsIn d → HoldsIn (noteDesk c t f d)
-  note-holds (begin u) t f d b h =
-      either (is Start t) _ d (entered u _ d (λ e. absurd (false≢true (sym (ap not (eq-eqb u s e)) ∙ b))) h) h
+  note-holds (begin u) t f d b h = listening-holds (Begin u) t d b h
   note-holds (read u q) t f d b h = h
   note-holds (write u q vs) t f d b h =
       either (is Ok t) _ _
@@ -101,6 +107,7 @@ module _ (s r : ℕ) (ws : List ℕ) where
       either (is End t) _ d (entered u _ (ticked d) (λ e. rw e (ended-holds (valueOf t) (d .session s) h)) h) h
   note-holds (settle len u) t f d b h = either (is Ok t) _ d (entered u idle d (λ e. tt) h) h
   note-holds (reclaim len u) t f d b h = h
+  note-holds (listen c) t f d b h = listening-holds c t d b h
 
   run-holds : (calls : List Call) (w : World) → allBesides s r calls ≡ true → HoldsIn (w .ledger .desk) → HoldsIn (run storeRules calls w .ledger .desk)
   unfolding run step note allBesides

@@ -45,10 +45,15 @@ use Rattle.recovery.specs.Told.{openTold, recoverTold}
 use Rattle.recovery.specs.declared.opening.OpenReply.{OpenReply}
 use Rattle.recovery.specs.declared.recovering.RecoverReply.{RecoverReply}
 use Rattle.recovery.specs.declared.recovering.RecoverAnswer.the-variants.{Refused as RecoverRefused}
-use Rattle.history.specs.Call.{Call, begin, read, write, abandon, finish, publish, settle, reclaim}
+use Rattle.listening.specs.Read.{listenReadFault, listenReadReply}
+use Rattle.listening.specs.Finish.{listenFinishReply}
+use Rattle.listening.specs.Find.{firstMatch, findRefused, findDone, findReply}
+use Rattle.listening.specs.Told.{findTold}
+use Rattle.listening.specs.declared.finding.FindReply.{FindReply}
+use Rattle.history.specs.Call.{Listening, Begin, Read, Finish, Find, Call, begin, read, write, abandon, finish, publish, settle, reclaim, listen}
 use Rattle.claims.proofs.Lists.{lists}
-use Rattle.claims.proofs.Rows.{desk-row, lay-row, open-row, recover-row, finish-row, settle-row, reclaim-row, read-row, write-row}
-use Rattle.claims.specs.Rules.{storeRules}
+use Rattle.claims.proofs.Rows.{desk-row, lay-row, open-row, recover-row, finish-row, settle-row, reclaim-row, read-row, write-row, listen-read-row, listen-finish-row, find-row}
+use Rattle.claims.specs.Rules.{listeningCall, storeRules}
 use Rattle.claims.specs.Refusals.{Cause, number, holds, Given, firstRefusal, recoverRow, row, ofImage, given, only, TurnedAway, StoresNothing, Refusals}
 
 -- a call whose fault is k: its refusal by k tells k and this value and leaves what is to be kept, and past its checks it refuses nothing
@@ -124,6 +129,28 @@ stores-nothing e t n =
 no-stores : StoresNothing 0 []
 no-stores = record { none = refl; entries = refl; image = λ img. refl; trace = λ trace. refl }
 
+-- past its checks a read refuses nothing
+read-takes : (img : List ℕ) (d : Desk) (s r : ℕ) → isRefusal (readTold (readDone img d s r .answer) (readDone img d s r .words)) ≡ false
+read-takes img d s r =
+    either (λ (x : ReadReply). readTold (x .answer) (x .words)) (ltb (ownPlace (sessionAt d s) r) 4) _ _ refl
+    (either (λ (x : ReadReply). readTold (x .answer) (x .words)) (copyShown d (startOf (sessionAt d s .phase)) r) _ _ refl refl)
+
+listening-turned : (img : List ℕ) (d : Desk) (c : Listening) → CallTurned img d (listen c) (listeningCall img d c .told) (listeningCall img d c .desk)
+unfolding beginReply beginFault listenReadReply listenFinishReply findReply
+listening-turned img d (Begin s) =
+    plain img d (listen (Begin s)) (λ (r : BeginReply). beginTold (r .answer)) (λ r. r .desk) (beginRefused d) (begun d s)
+    (desk-row img d s isIdle) refl (λ k. refl) (λ k. refl) refl
+listening-turned img d (Read s r) =
+    plain img d (listen (Read s r)) (λ (x : ReadReply). readTold (x .answer) (x .words)) (λ x. x .desk) (readRefused d) (readDone img d s r)
+    (listen-read-row img d s r) refl (λ k. refl) (λ k. refl) (read-takes img d s r)
+listening-turned img d (Finish len s) =
+    let told : FinishReply → Told = λ r. finishTold (r .answer) in
+    plain img d (listen (Finish len s)) told (λ r. r .desk) (finishRefused d) (finishDone d s) (listen-finish-row img d len s) refl (λ k. refl) (λ k. refl)
+    (either told (eqb (sessionAt d s .count) 0) _ _ refl refl)
+listening-turned img d (Find s k) =
+    plain img d (listen (Find s k)) (λ (x : FindReply). findTold (x .answer)) (λ x. x .desk) (findRefused d) (findDone img d s k)
+    (find-row img d s k) refl (λ j. refl) (λ j. refl) (either findTold (ltb (firstMatch img d s k) (d .n)) _ _ refl refl)
+
 calls : (img : List ℕ) (d : Desk) (c : Call) → CallTurned img d c (storeRules .call img d c .told) (storeRules .call img d c .desk)
 unfolding beginReply beginFault abandonReply abandonFault publishReply publishFault readReply writeReply writeRefused finishReply settleReply reclaimReply
 calls img d (begin s) =
@@ -136,9 +163,8 @@ calls img d (publish s) =
     plain img d (publish s) (λ (r : PublishReply). publishTold (r .answer)) (λ r. r .desk) (publishRefused d) (published d s)
     (desk-row img d s isSealed) refl (λ k. refl) (λ k. refl) refl
 calls img d (read s r) =
-    let told : ReadReply → Told = λ x. readTold (x .answer) (x .words) in
-    plain img d (read s r) told (λ x. x .desk) (readRefused d) (readDone img d s r) (read-row img d s r) refl (λ k. refl) (λ k. refl)
-    (either told (ltb (ownPlace (sessionAt d s) r) 4) _ _ refl (either told (copyShown d (startOf (sessionAt d s .phase)) r) _ _ refl refl))
+    plain img d (read s r) (λ (x : ReadReply). readTold (x .answer) (x .words)) (λ x. x .desk) (readRefused d) (readDone img d s r)
+    (read-row img d s r) refl (λ k. refl) (λ k. refl) (read-takes img d s r)
 calls img d (write s r ws) =
     let told : WriteReply → Told = λ x. writeTold (x .answer) in
     let k = firstRefusal (row (write s r ws)) (given img d (write s r ws)) in
@@ -156,9 +182,14 @@ calls img d (reclaim len s) =
     let told : ReclaimReply → Told = λ r. reclaimTold (r .answer) in
     plain img d (reclaim len s) told (λ r. r .desk) (reclaimRefused d) (reclaimDone img d s) (reclaim-row img d len s) refl (λ k. refl) (λ k. refl)
     (either told (noneLeft img d s) _ _ refl (either told (heldB img d s) _ _ refl refl))
+calls img d (listen c) = listening-turned img d c
 
 calls-store : (img : List ℕ) (d : Desk) (c : Call) → (firstRefusal (row c) (given img d c) ≡ 0 → ⊥)
     → StoresNothing (storeRules .call img d c .count) (storeRules .call img d c .entries)
+calls-store img d (listen (Begin s)) n = no-stores
+calls-store img d (listen (Read s r)) n = no-stores
+calls-store img d (listen (Finish len s)) n = rw (lists .listen-finish img d len s) no-stores
+calls-store img d (listen (Find s k)) n = no-stores
 calls-store img d (begin s) n = no-stores
 calls-store img d (read s r) n = no-stores
 calls-store img d (write s r ws) n = no-stores
@@ -169,7 +200,7 @@ calls-store img d (settle len s) n = stores-nothing (settle-row img d len s) (li
 calls-store img d (reclaim len s) n = stores-nothing (reclaim-row img d len s) (lists .reclaim img d len s) n
 
 pub refusals : Refusals
-unfolding layAnswer laidImage openReply readReply recoverReply recoverRefused unsoundPlace
+unfolding layAnswer laidImage openReply readReply listenReadReply recoverReply recoverRefused unsoundPlace
 refusals =
     record {
       lay = λ n m img.
@@ -188,6 +219,9 @@ refusals =
       read-words = λ img d s r n.
           ap (λ (x : ReadReply). x .words)
           (answered-not (readFault img d s r) (readRefused d) (readDone img d s r) (λ z. n (sym (read-row img d s r) ∙ z)));
+      listen-read-words = λ img d s r n.
+          ap (λ (x : ReadReply). x .words)
+          (answered-not (listenReadFault img d s r) (readRefused d) (readDone img d s r) (λ z. n (sym (listen-read-row img d s r) ∙ z)));
       calls-store = calls-store;
       recover-stores = λ img len. stores-nothing (recover-row img len) (lists .recover img len);
     }

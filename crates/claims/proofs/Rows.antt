@@ -31,10 +31,14 @@ use Rattle.commit.specs.Settle.{settleFault}
 use Rattle.commit.specs.Reclaim.{reclaimFault}
 use Rattle.recovery.specs.Open.{openFault}
 use Rattle.recovery.specs.Recover.{slotsOf, unsoundPlace, tiedBelow, tiesB, recoverFault}
-use Rattle.history.specs.Call.{read, write, finish, settle, reclaim}
+use Rattle.reels.specs.Reel.{shelfB}
+use Rattle.listening.specs.Listener.{noCopies, listenerFault}
+use Rattle.listening.specs.Read.{listenReadFault}
+use Rattle.listening.specs.Find.{findFault}
+use Rattle.history.specs.Call.{Read, Finish, Find, read, write, finish, settle, reclaim}
 use Rattle.claims.specs.Refusals.{Cause, wrongImage, wrongLength, incoherent, otherSize, shortTrace, noSession, noRecord, wrongPhase}
-use Rattle.claims.specs.Refusals.{otherHolds, fifthRecord, slotsFull, clockAtLimit, slotOccupied, logUnsound, logsTied, outOfRange}
-use Rattle.claims.specs.Refusals.{Given, number, markedOwn, unsoundAt, tiedAt, holds, firstRefusal, layRow, openRow, recoverRow, row, ofImage, ofCall, given}
+use Rattle.claims.specs.Refusals.{otherHolds, fifthRecord, slotsFull, clockAtLimit, slotOccupied, logUnsound, logsTied, outOfRange, wrongShelf, copiesHeld}
+use Rattle.claims.specs.Refusals.{Given, number, markedOwn, unsoundAt, tiedAt, holds, firstRefusal, layRow, openRow, recoverRow, listeningRow, row, ofImage, ofCall, givenListening, given}
 use Rattle.claims.proofs.Abstraction.{lowest-is}
 
 -- ---- checks and rows
@@ -58,6 +62,8 @@ refuses slotOccupied rest = refl
 refuses logUnsound rest = refl
 refuses logsTied rest = refl
 refuses outOfRange rest = refl
+refuses wrongShelf rest = refl
+refuses copiesHeld rest = refl
 
 module _ (g : Given) where
   -- a check is a row of one cause
@@ -114,18 +120,18 @@ none-found p n =
 
 -- begin, abandon and publish: checks 2, 4 and 6
 pub desk-row : (img : List ℕ) (d : Desk) (s : ℕ) (allows : Phase → Bool)
-    → first (deskFault d s) (unless (allows (sessionAt d s .phase)) 6) ≡ firstRefusal (incoherent ∷ noSession ∷ wrongPhase ∷ []) (ofCall img d 0 s 0 allows)
+    → first (deskFault d s) (unless (allows (sessionAt d s .phase)) 6) ≡ firstRefusal (incoherent ∷ noSession ∷ wrongPhase ∷ []) (ofCall img d 0 s 0 0 allows)
 unfolding sessionFault holds
 desk-row img d s allows =
-    let g = ofCall img d 0 s 0 allows in
+    let g = ofCall img d 0 s 0 0 allows in
     joined g (incoherent ∷ noSession ∷ []) (wrongPhase ∷ [])
     (joined g (incoherent ∷ []) (noSession ∷ []) (asks g incoherent (coherentB d) refl) (λ z. asks g noSession (ltb s (d .m)) (leb-not (d .m) s)))
     (λ z. asks g wrongPhase (allows (sessionAt d s .phase)) refl)
 
 -- the calls that take an image
-module _ (img : List ℕ) (d : Desk) (len s r : ℕ) (allows : Phase → Bool) where
+module _ (img : List ℕ) (d : Desk) (len s r k : ℕ) (allows : Phase → Bool) where
   abbrev g : Given
-  g = ofCall img d len s r allows
+  g = ofCall img d len s r k allows
 
   -- check 2 has two causes
   coherent-row : unless (coherentB d && eqb (d .n) (recordsOf img) && eqb (d .m) (sessionsOf img)) 2 ≡ firstRefusal (incoherent ∷ otherSize ∷ []) g
@@ -191,7 +197,7 @@ unfolding finishFault holds
 finish-row img d len s =
     let g = given img d (finish len s) in
     joined g (wrongImage ∷ incoherent ∷ otherSize ∷ shortTrace ∷ noSession ∷ []) (wrongPhase ∷ clockAtLimit ∷ [])
-    (traced-row img d len s 0 isActive)
+    (traced-row img d len s 0 0 isActive)
     (λ z. joined g (wrongPhase ∷ []) (clockAtLimit ∷ []) (asks g wrongPhase (isActive (sessionAt d s .phase)) refl)
     (λ z. asks g clockAtLimit (eqb (sessionAt d s .count) 0 || ltb (d .clock) limit)
     (or-not (eqb (sessionAt d s .count) 0) (ltb (d .clock) limit) (leb limit (d .clock)) (leb-not limit (d .clock)))))
@@ -200,20 +206,51 @@ pub settle-row : (img : List ℕ) (d : Desk) (len s : ℕ) → settleFault img d
 unfolding settleFault holds
 settle-row img d len s =
     let g = given img d (settle len s) in
-    joined g (wrongImage ∷ incoherent ∷ otherSize ∷ shortTrace ∷ noSession ∷ []) (wrongPhase ∷ []) (traced-row img d len s 0 isPublished)
+    joined g (wrongImage ∷ incoherent ∷ otherSize ∷ shortTrace ∷ noSession ∷ []) (wrongPhase ∷ []) (traced-row img d len s 0 0 isPublished)
     (λ z. asks g wrongPhase (isPublished (sessionAt d s .phase)) refl)
 
 pub reclaim-row : (img : List ℕ) (d : Desk) (len s : ℕ) → reclaimFault img d len s ≡ firstRefusal (row (reclaim len s)) (given img d (reclaim len s))
 unfolding reclaimFault
-reclaim-row img d len s = traced-row img d len s 0 (λ p. true)
+reclaim-row img d len s = traced-row img d len s 0 0 (λ p. true)
 
 pub read-row : (img : List ℕ) (d : Desk) (s r : ℕ) → readFault img d s r ≡ firstRefusal (row (read s r)) (given img d (read s r))
 unfolding readFault holds
 read-row img d s r =
     let g = given img d (read s r) in
     sym (first-assoc (imageFault img d true s) _ _)
-    ∙ joined g (wrongImage ∷ incoherent ∷ otherSize ∷ noSession ∷ noRecord ∷ []) (wrongPhase ∷ []) (record-row img d 0 s r isActive)
+    ∙ joined g (wrongImage ∷ incoherent ∷ otherSize ∷ noSession ∷ noRecord ∷ []) (wrongPhase ∷ []) (record-row img d 0 s r 0 isActive)
     (λ z. asks g wrongPhase (isActive (sessionAt d s .phase)) refl)
+
+-- ---- the listening room
+
+-- finish and find past the checks of an image: 6 and 18
+listener-row : (img : List ℕ) (d : Desk) (len s k : ℕ)
+    → first (unless (isActive (sessionAt d s .phase)) 6) (unless (noCopies d s) 18) ≡ firstRefusal (wrongPhase ∷ copiesHeld ∷ []) (ofCall img d len s 0 k isActive)
+unfolding holds
+listener-row img d len s k =
+    let g = ofCall img d len s 0 k isActive in
+    joined g (wrongPhase ∷ []) (copiesHeld ∷ []) (asks g wrongPhase (isActive (sessionAt d s .phase)) refl) (λ z. asks g copiesHeld (noCopies d s) refl)
+
+pub listen-read-row : (img : List ℕ) (d : Desk) (s r : ℕ) → listenReadFault img d s r ≡ firstRefusal (listeningRow (Read s r)) (givenListening img d (Read s r))
+unfolding listenReadFault holds
+listen-read-row img d s r =
+    let g = givenListening img d (Read s r) in
+    joined g (row (read s r)) (copiesHeld ∷ []) (read-row img d s r) (λ z. asks g copiesHeld (noCopies d s) refl)
+
+pub listen-finish-row : (img : List ℕ) (d : Desk) (len s : ℕ)
+    → listenerFault img d (roomFor len) s ≡ firstRefusal (listeningRow (Finish len s)) (givenListening img d (Finish len s))
+unfolding listenerFault
+listen-finish-row img d len s =
+    joined (givenListening img d (Finish len s)) (wrongImage ∷ incoherent ∷ otherSize ∷ shortTrace ∷ noSession ∷ []) (wrongPhase ∷ copiesHeld ∷ [])
+    (traced-row img d len s 0 0 isActive) (λ z. listener-row img d len s 0)
+
+pub find-row : (img : List ℕ) (d : Desk) (s k : ℕ) → findFault img d s k ≡ firstRefusal (listeningRow (Find s k)) (givenListening img d (Find s k))
+unfolding findFault listenerFault holds firstRefusal
+find-row img d s k =
+    let g = givenListening img d (Find s k) in
+    joined g (wrongShelf ∷ []) (wrongImage ∷ incoherent ∷ otherSize ∷ noSession ∷ wrongPhase ∷ copiesHeld ∷ []) (asks g wrongShelf (shelfB k) refl)
+    (λ z. joined g (wrongImage ∷ incoherent ∷ otherSize ∷ noSession ∷ []) (wrongPhase ∷ copiesHeld ∷ []) (image-row img d 0 s 0 k isActive true [] refl)
+    (λ y. listener-row img d 0 s k))
 
 -- ---- write
 
@@ -245,12 +282,12 @@ module _ (img : List ℕ) (d : Desk) (s r : ℕ) (h : RecordEntered img d s r) w
 
   -- checks 7 to 9, which are not made of a record that the session copies
   copy-row : cond (ownsB d s r) 0 (copyFault (markAt d r) (e .count) (emptySlot img (d .n) s))
-      ≡ firstRefusal (otherHolds ∷ fifthRecord ∷ slotsFull ∷ []) (ofCall img d 0 s r isActive)
+      ≡ firstRefusal (otherHolds ∷ fifthRecord ∷ slotsFull ∷ []) (ofCall img d 0 s r 0 isActive)
   unfolding copyFault holds firstRefusal
   copy-row = by-test (ownsB d s r) (λ t. rw t (own t)) (λ t. rw t (other t))
     where
       g : Given
-      g = ofCall img d 0 s r isActive
+      g = ofCall img d 0 s r 0 isActive
 
       own : ownsB d s r ≡ true → 0 ≡ firstRefusal (otherHolds ∷ fifthRecord ∷ slotsFull ∷ []) g
       own t =
@@ -273,6 +310,6 @@ write-row img d s r ws =
     let g = given img d (write s r ws) in
     sym (first-assoc (imageFault img d true s) _ _)
     ∙ joined g (wrongImage ∷ incoherent ∷ otherSize ∷ noSession ∷ noRecord ∷ []) (wrongPhase ∷ otherHolds ∷ fifthRecord ∷ slotsFull ∷ [])
-    (record-row img d 0 s r isActive)
+    (record-row img d 0 s r 0 isActive)
     (λ z. joined g (wrongPhase ∷ []) (otherHolds ∷ fifthRecord ∷ slotsFull ∷ []) (asks g wrongPhase (isActive (sessionAt d s .phase)) refl)
     (λ y. copy-row img d s r (record-entered img d s r z)))

@@ -18,7 +18,7 @@ use Rattle.layout.specs.Told.{Told, refusal}
 use Rattle.history.specs.Call.{Call}
 use Rattle.history.specs.Due.{Due, refuse, ifRoom, ifSession}
 use Rattle.history.specs.Ledger.{noteDesk}
-use Rattle.claims.proofs.Abstraction.{abs}
+use Rattle.claims.proofs.Abstraction.{abs, copiesOf, length-front}
 use Rattle.claims.proofs.Entering.{session-small}
 use Rattle.claims.proofs.Simulation.{Sim, Ready, ready-fault}
 
@@ -78,3 +78,7 @@ module _ (N M : ℕ) (img : List ℕ) (d : Desk) (s : ℕ) (h : Ready N M img d)
   -- has a place for each of its copies
   pub fits : sessionAt d s .count ≤ length (sessionAt d s .copies)
   fits = omega (arith, copies-four d (h .coherent) s (session-small N M img d h s l), h .copies-long s (session-small N M img d h s l))
+
+  -- and as many copies as it counts
+  pub count-is : length (copiesOf (sessionAt d s)) ≡ sessionAt d s .count
+  count-is = length-front (sessionAt d s .count) (sessionAt d s .copies) fits

@@ -23,10 +23,10 @@ use Rattle.history.specs.Call.{finish}
 use Rattle.history.specs.Desk.{Copy}
 use Rattle.history.specs.Due.{finishes, sealsCopies, dueOf, finishStores}
 use Rattle.history.specs.History.{History}
-use Rattle.claims.proofs.Abstraction.{txn-of, copiesOf, abs, abs-put, length-front}
+use Rattle.claims.proofs.Abstraction.{txn-of, copiesOf, abs, abs-put}
 use Rattle.claims.proofs.Simulation.{Sim, Ready}
 use Rattle.claims.proofs.Entering.{session-there}
-use Rattle.claims.proofs.SimulateChecks.{Checked, Does, does-refuse, past-four, fits}
+use Rattle.claims.proofs.SimulateChecks.{Checked, Does, does-refuse, past-four, fits, count-is}
 use Rattle.claims.proofs.CopyEntries.{log-copies}
 
 -- finish past its checks, and where a check refuses
@@ -50,10 +50,6 @@ module _ (N M : ℕ) (img : List ℕ) (d : Desk) (f : ℕ → ℕ) (len s : ℕ)
   abbrev e : Session
   e = sessionAt d s
 
-  -- as many copies as the entry counts
-  count-is : length (copiesOf e) ≡ e .count
-  count-is = length-front (e .count) (e .copies) (fits N M img d s h l)
-
   -- the log that is stored
   seal-entries : sealEntries d s ≡ finishStores (d .n) (placeOf s (e .slot)) (d .clock) (copiesOf e)
   seal-entries = log-copies e (fits N M img d s h l) (slotAt (d .n) (placeOf s (e .slot))) (d .clock)
@@ -63,9 +59,9 @@ module _ (N M : ℕ) (img : List ℕ) (d : Desk) (f : ℕ → ℕ) (len s : ℕ)
       → Does d f (finish-call d f len s) (unless (eqb (e .count) 0 || ltb (d .clock) limit) 10) (sealsCopies (d .n) (d .clock) (placeOf s (e .slot)) cs)
   unfolding answered
   seals b i [] z =
-      rw (eq-eqb (e .count) 0 (sym count-is ∙ ap length z))
+      rw (eq-eqb (e .count) 0 (sym (count-is N M img d s h l) ∙ ap length z))
       (record { answers = refl; stored = refl; desk = abs-put d (d .clock) (d .n) (d .m) s idleSession (d .holders) (session-there N M img d h s l) })
-  seals b i (c ∷ cs) z = go (ne-eqb (e .count) 0 (λ n. omega (arith, count-is, ap length z))) (decLt (d .clock) limit)
+  seals b i (c ∷ cs) z = go (ne-eqb (e .count) 0 (λ n. omega (arith, count-is N M img d s h l, ap length z))) (decLt (d .clock) limit)
     where
       go : eqb (e .count) 0 ≡ false → Dec (d .clock < limit)
           → Does d f (finish-call d f len s) (unless (eqb (e .count) 0 || ltb (d .clock) limit) 10) (sealsCopies (d .n) (d .clock) (placeOf s (e .slot)) (c ∷ cs))

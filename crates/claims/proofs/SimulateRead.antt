@@ -81,7 +81,7 @@ module _ (N M : ℕ) (img : List ℕ) (d : Desk) (s r : ℕ) (f : ℕ → ℕ) (
   stays false o y a n = record { answers = a; stored = sym n; desk = refl }
 
   -- an active session reads
-  reads-active : s < M → r < N → (b : ℕ) → e .phase ≡ Active b
+  pub reads-active : s < M → r < N → (b : ℕ) → e .phase ≡ Active b
       → ReadSim (readDone img d s r) (readsOwn (find r (copiesOf e)) (readsOther (shownBy b (abs d) (holder M (abs d) r)) (viewAt k b r)))
   reads-active l lr b i =
       let four = h .copies-long s (session-small N M img d h s l) in

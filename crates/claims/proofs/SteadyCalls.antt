@@ -31,6 +31,11 @@ use Rattle.commit.specs.Finish.{finishFault, finishRefused, finishDone, finishR
 use Rattle.commit.specs.Settle.{settleFault, settleRefused, settleDone, waitsB, settleReply}
 use Rattle.commit.specs.Reclaim.{reclaimFault, reclaimRefused, reclaimDone, noneLeft, heldB, reclaimReply}
 use Rattle.desk.proofs.Entered.{entered as image-entered, entry-most}
+use Rattle.listening.specs.Listener.{listenerFault}
+use Rattle.listening.specs.Read.{listenReadFault, listenReadReply}
+use Rattle.listening.specs.Finish.{listenFinishReply}
+use Rattle.listening.specs.Find.{findFault, findRefused, findDone, findReply}
+use Rattle.listening.proofs.FinishLaws.{finish-done}
 use Rattle.claims.proofs.Sessions.{idle-in, idle-none, sealed-some}
 use Rattle.claims.proofs.Steady.{Steady, Kept, adds, phase-kept, drop-kept, overwrite-kept, copy-kept}
 
@@ -153,11 +158,30 @@ settle-kept img d len s h =
     (λ y. rw y (unchanged d h))
     (λ y. rw y (drop-kept d s h (image-entered img d (roomFor len) s (first-both (imageFault img d (roomFor len) s) _ z .0) .below))))
 
--- read leaves the desk as it is
+-- the listening room's finish, past its checks, is the store's
+pub listen-finish-kept : (img : List ℕ) (d : Desk) (len s : ℕ) → Steady d → Kept d (listenFinishReply img d len s .desk)
+unfolding listenFinishReply
+listen-finish-kept img d len s h =
+    by-answer (λ r. Kept d (r .desk)) (listenerFault img d (roomFor len) s) (finishRefused d) (finishDone d s) (unchanged d h)
+    (λ z. rw (finish-done img d len s z) at (finish-kept img d len s h))
+
+-- read, with whatever checks, leaves the desk as it is
+done-desk : (img : List ℕ) (d : Desk) (s r k : ℕ) → answered k (readRefused d) (readDone img d s r) .desk ≡ d
+done-desk img d s r k = by-answer (λ a. a .desk ≡ d) k (readRefused d) (readDone img d s r) refl
+    (λ z. by-test (ltb (ownPlace (sessionAt d s) r) 4) (λ y. rw y) (λ y. by-test (copyShown d (startOf (sessionAt d s .phase)) r) (λ w. rw (y, w)) (λ w. rw (y, w))))
+
 pub read-desk : (img : List ℕ) (d : Desk) (s r : ℕ) → readReply img d s r .desk ≡ d
 unfolding readReply
-read-desk img d s r = by-answer (λ a. a .desk ≡ d) (readFault img d s r) (readRefused d) (readDone img d s r) refl
-    (λ z. by-test (ltb (ownPlace (sessionAt d s) r) 4) (λ y. rw y) (λ y. by-test (copyShown d (startOf (sessionAt d s .phase)) r) (λ w. rw (y, w)) (λ w. rw (y, w))))
+read-desk img d s r = done-desk img d s r (readFault img d s r)
+
+pub listen-read-desk : (img : List ℕ) (d : Desk) (s r : ℕ) → listenReadReply img d s r .desk ≡ d
+unfolding listenReadReply
+listen-read-desk img d s r = done-desk img d s r (listenReadFault img d s r)
+
+-- so does find
+pub find-desk : (img : List ℕ) (d : Desk) (s k : ℕ) → findReply img d s k .desk ≡ d
+unfolding findReply
+find-desk img d s k = by-answer (λ a. a .desk ≡ d) (findFault img d s k) (findRefused d) (findDone img d s k) refl (λ z. refl)
 
 -- reclaim leaves the desk as it is
 pub reclaim-desk : (img : List ℕ) (d : Desk) (len s : ℕ) → reclaimReply img d len s .desk ≡ d

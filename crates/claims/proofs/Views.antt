@@ -5,7 +5,7 @@ use mathlib.Core.Bool.{Bool, true, false, cond}
 use mathlib.Core.List.{List, [], _∷_, _++_}
 use native.Mathlib.Omega.{arith}
 use Rattle.layout.specs.Told.{Told, is, valueOf, Sealed}
-use Rattle.history.specs.Call.{Call, begin, read, write, abandon, finish, publish, settle, reclaim}
+use Rattle.history.specs.Call.{Call, begin, read, write, abandon, finish, publish, settle, reclaim, listen}
 use Rattle.history.specs.Cut.{numberArrived, feedCut}
 use Rattle.history.specs.Desk.{Desk}
 use Rattle.history.specs.Due.{due}
@@ -62,6 +62,7 @@ cut-view N d (abandon s) t img h σ r = refl
 cut-view N d (publish s) t img h σ r = refl
 cut-view N d (settle len s) t img h σ r = refl
 cut-view N d (reclaim len s) t img h σ r = refl
+cut-view N d (listen c) t img h σ r = refl
 cut-view N d (finish len s) t img h σ r = go (is Sealed t) (numberArrived N d s (valueOf t) img)
   where
     go : (a b : Bool) → viewAt (cond a (cond b (sealing s h) h) h) σ r ≡ viewAt h σ r

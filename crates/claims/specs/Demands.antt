@@ -1,17 +1,19 @@
 -- Demands 2 and 3, over given rules. Nothing is assumed but that the image opens.
-use Prim.Native.Nat.{ℕ, _<_}
-use mathlib.Core.Bool.{Bool, true}
+use Prim.Native.Nat.{ℕ, suc, _<_}
+use mathlib.Core.Bool.{Bool, true, _||_}
 use mathlib.Core.Path.{_≡_}
 use mathlib.Core.List.{List, [], _∷_, _++_}
-use lib.ListN.{take}
+use lib.ListN.{take, getD}
 use Rattle.layout.specs.Crash.{arrived}
 use Rattle.layout.specs.Image.{recordsOf, sessionsOf, homeWords}
-use Rattle.layout.specs.Told.{Told, ok, clean, is, wordsTold, Copy, Home}
-use Rattle.history.specs.Call.{Call, read}
+use Rattle.layout.specs.Told.{Told, ok, clean, foundAt, is, valueOf, wordsTold, Copy, Home, None, Found}
+use Rattle.history.specs.Call.{Listening, Begin, Read, Finish, Find, Call, begin, read, write, abandon, finish, publish, settle, reclaim, listen}
 use Rattle.history.specs.Cut.{feedCut}
 use Rattle.history.specs.Due.{due, fourWords}
 use Rattle.history.specs.History.{History, recordOf, viewAt}
-use Rattle.claims.specs.Rules.{Rules}
+use Rattle.history.specs.Ledger.{Ledger}
+use Rattle.history.specs.Looks.{Looks, dueLooks}
+use Rattle.claims.specs.Rules.{Reply, Rules}
 use Rattle.claims.specs.Run.{World, opened, reply, run, stored}
 use Rattle.claims.specs.Recovery.{Attempt, afterAttempts, afterCalls, afterStop, Ends}
 
@@ -28,6 +30,17 @@ abbrev pub StoresDue : Rules → Type 0
 StoresDue R = (img : List ℕ) → R .opens img .told ≡ ok → (calls : List Call) (c : Call)
     → reply R (run R calls (opened R img)) c .entries
     ≡ due (recordsOf img) (sessionsOf img) (run R calls (opened R img) .ledger) c .entries
+
+-- the same records, from record 0 up, and each gives the same
+pub record SameLooks (x y : Looks) : Type 0 where
+  pub number : x .number ≡ y .number
+  pub gives : (r : ℕ) → r < y .number → x .gives r ≡ y .gives r
+
+-- and a search looks at the records that are due, each of which gives what is due
+abbrev pub LooksDue : Rules → Type 0
+LooksDue R = (img : List ℕ) → R .opens img .told ≡ ok → (calls : List Call) (c : Call)
+    → SameLooks (reply R (run R calls (opened R img)) c .looks)
+    (dueLooks (recordsOf img) (sessionsOf img) (run R calls (opened R img) .ledger) c)
 
 -- ---- demand 3
 
@@ -62,6 +75,34 @@ pub record ReadRight (h : History) (start r : ℕ) (t : Told) : Type 0 where
   pub copy : is Copy t ≡ true → wordsTold t ≡ viewAt h start r
   pub home : is Home t ≡ true → wordsTold t ≡ fourWords (viewAt h start r)
 
+-- a search (document 02, Req 03), by the records that it looked at: each gave a copy or a home record with the words that the history at the
+-- cut names; one that has the number as word 0 is the answer, so the search stopped there; an answer "none" comes behind all N records
+pub record FindRight (h : History) (start N k : ℕ) (t : Told) (x : Looks) : Type 0 where
+  pub each : (r : ℕ) → r < x .number → ReadRight h start r (x .gives r)
+  pub source : (r : ℕ) → r < x .number → (is Copy (x .gives r) || is Home (x .gives r)) ≡ true
+  pub first : (r : ℕ) → r < x .number → getD (wordsTold (x .gives r)) 0 0 ≡ k → t ≡ foundAt r
+  pub found : is Found t ≡ true → (x .number ≡ suc (valueOf t)) × (getD (wordsTold (x .gives (valueOf t))) 0 0 ≡ k)
+  pub none : is None t ≡ true → x .number ≡ N
+
+-- what a call that reads gave, where the ledger before it is L, in a store of N records
+module _ (h : History) (N : ℕ) (L : Ledger) where
+  abbrev pub ListeningRight : Listening → Reply → Type 0
+  ListeningRight (Begin s) y = Unit {0}
+  ListeningRight (Read s r) y = ReadRight h (L .history .start s) r (y .told)
+  ListeningRight (Finish len s) y = Unit {0}
+  ListeningRight (Find s k) y = FindRight h (L .history .start s) N k (y .told) (y .looks)
+
+  abbrev pub CallRight : Call → Reply → Type 0
+  CallRight (begin s) y = Unit {0}
+  CallRight (read s r) y = ReadRight h (L .history .start s) r (y .told)
+  CallRight (write s r ws) y = Unit {0}
+  CallRight (abandon s) y = Unit {0}
+  CallRight (finish len s) y = Unit {0}
+  CallRight (publish s) y = Unit {0}
+  CallRight (settle len s) y = Unit {0}
+  CallRight (reclaim len s) y = Unit {0}
+  CallRight (listen c) y = ListeningRight c y
+
 -- an image that is recovered: it opens, with the N and M that it had, and every record equals the book's
 pub record Recovered (R : Rules) (first : List ℕ) (h : History) (img : List ℕ) : Type 0 where
   pub opens : R .opens img .told ≡ ok
@@ -80,10 +121,9 @@ module _ (R : Rules) (img : List ℕ) (cut : Cut) (attempts : List Attempt) wher
     -- whenever recover answers "clean", after any whole calls, the image is recovered, whichever words since the last fence arrive
     pub clean-right : (whole : List ℕ) (last : ℕ) (sel : ℕ → Bool) → R .recover (afterCalls R whole tried) last .told ≡ clean
         → Recovered R img (cutHistory R img cut) (afterStop R (whole ++ (last ∷ [])) sel tried)
-    -- every copy or home read along the list gave the book's words
-    pub reads : (earlier later : List Call) (s r : ℕ) → before cut ≡ earlier ++ (read s r ∷ later)
-        → ReadRight (cutHistory R img cut) (run R earlier (opened R img) .ledger .history .start s) r
-        (reply R (run R earlier (opened R img)) (read s r) .told)
+    -- every copy or home read along the list, and every record that a search looked at, gave the book's words
+    pub reads : (earlier later : List Call) (c : Call) → before cut ≡ earlier ++ (c ∷ later)
+        → CallRight (cutHistory R img cut) (recordsOf img) (run R earlier (opened R img) .ledger) c (reply R (run R earlier (opened R img)) c)
 
 -- from any image that opens, along any list of calls, wherever power fails, whichever words have arrived, and however often recovery is cut
 abbrev pub Demand3 : Rules → Type 0

@@ -3,14 +3,14 @@
 use Prim.Native.Nat.{ℕ, zero, suc, _+_, _-_}
 use mathlib.Core.Bool.{Bool, _&&_, _||_, not, cond}
 use mathlib.Core.List.{List, [], _∷_, _++_}
-use lib.ListN.{length}
+use lib.ListN.{length, getD}
 use lib.Dec.{eqb, leb, ltb}
 use Rattle.layout.specs.Below.{allBelow, lowest}
 use Rattle.layout.specs.Entries.{Entry, store, fence}
-use Rattle.layout.specs.Image.{recordsOf, slotAt, persistAt, occupiedAt}
+use Rattle.layout.specs.Image.{recordsOf, homeWords, slotAt, persistAt, occupiedAt}
 use Rattle.layout.specs.Oldest.{oldestOf}
 use Rattle.layout.specs.Tidy.{Tidy}
-use Rattle.layout.specs.Told.{Told, refused, result, refusal, copied, wait, held, cleared, clean, replayed, is, isRefusal, Ok, Home, Wait, Held}
+use Rattle.layout.specs.Told.{Told, refused, result, refusal, copied, home, wait, nothing, held, cleared, clean, replayed, foundAt, is, isRefusal, wordsTold, Ok, Home, Wait, Held}
 use Rattle.desk.specs.Desk.{sessionAt, markAt, copyAt, isSealed, isPublished}
 use Rattle.desk.specs.declared.state.Desk.{Desk}
 use Rattle.snapshot.specs.Own.{ownPlace, zeroWords}
@@ -19,13 +19,20 @@ use Rattle.commit.specs.Finish.{finishFault}
 use Rattle.commit.specs.Settle.{startsFor}
 use Rattle.commit.specs.Reclaim.{chosen, clearEntries}
 use Rattle.recovery.specs.Recover.{slotsOf, cleanB, firstLog, replayEntries}
-use Rattle.history.specs.Call.{Call, begin, read, write, abandon, finish, publish, settle, reclaim}
-use Rattle.claims.specs.Rules.{Reply, Recovery, Rules, tells, storeRules}
+use Rattle.history.specs.Call.{Listening, Begin, Read, Finish, Find, Call, begin, read, write, abandon, finish, publish, settle, reclaim, listen}
+use Rattle.history.specs.Looks.{Looks}
+use Rattle.claims.specs.Rules.{Reply, Recovery, Rules, tells, searching, storeRules}
 use Rattle.claims.specs.Demands.{Demand2, Demand3}
 
 -- ---- the store's rules with a change
 
--- the kinds of calls, by the program's numbers
+-- the kinds of calls, by the program's numbers, and from 16 on of those that the program does not take
+abbrev pub listeningKind : Listening → ℕ
+listeningKind (Begin s) = 16
+listeningKind (Read s r) = 17
+listeningKind (Finish len s) = 18
+listeningKind (Find s k) = 19
+
 abbrev pub kindOf : Call → ℕ
 kindOf (begin s) = 1
 kindOf (read s r) = 2
@@ -35,6 +42,13 @@ kindOf (publish s) = 5
 kindOf (settle len s) = 6
 kindOf (reclaim len s) = 7
 kindOf (abandon s) = 8
+kindOf (listen c) = listeningKind c
+
+abbrev pub listenerOf : Listening → ℕ
+listenerOf (Begin s) = s
+listenerOf (Read s r) = s
+listenerOf (Finish len s) = s
+listenerOf (Find s k) = s
 
 abbrev pub sessionOf : Call → ℕ
 sessionOf (begin s) = s
@@ -45,6 +59,7 @@ sessionOf (publish s) = s
 sessionOf (settle len s) = s
 sessionOf (reclaim len s) = s
 sessionOf (abandon s) = s
+sessionOf (listen c) = listenerOf c
 
 -- what a call gives on an image and a desk, from what the store gives
 abbrev pub Change : Type 0
@@ -65,7 +80,7 @@ telling t img d c y = tells t d
 
 -- another list of entries, and its length as the count
 abbrev pub storing : List Entry → Reply → Reply
-storing es y = record { told = y .told; entries = es; count = length es; desk = y .desk }
+storing es y = record { told = y .told; entries = es; count = length es; desk = y .desk; looks = y .looks }
 
 abbrev pub relisting : (List Entry → List Entry) → Change
 relisting g img d c y = storing (g (y .entries)) y
@@ -153,7 +168,7 @@ replaysOne = recovering (λ img. recovery clean (cond (cleanB img) [] (replayEnt
 
 -- "an entry count that isn't the length of the list": one more
 abbrev pub miscounting : Change
-miscounting img d c y = record { told = y .told; entries = y .entries; count = y .count + 1; desk = y .desk }
+miscounting img d c y = record { told = y .told; entries = y .entries; count = y .count + 1; desk = y .desk; looks = y .looks }
 
 abbrev pub miscounts : Rules
 miscounts = past 4 miscounting
@@ -208,6 +223,7 @@ recordRead (publish s) = 0
 recordRead (settle len s) = 0
 recordRead (reclaim len s) = 0
 recordRead (abandon s) = 0
+recordRead (listen c) = 0
 
 abbrev pub sealedCopy : Desk → ℕ → Told
 sealedCopy d r = copied (copyAt (holderEntry d r) (ownPlace (holderEntry d r) r) .words)
@@ -239,6 +255,61 @@ lastReader f = 15 - oldestOf (λ t. f (15 - t)) 16 .place
 abbrev pub newestReader : (ℕ → ℕ) → ℕ
 newestReader f = lowest 16 (λ t. allBelow 16 (λ u. leb (f u) (f t)))
 
+-- ---- impostors that break document 02's Req 03
+
+abbrev pub soughtListening : Listening → ℕ
+soughtListening (Begin s) = 0
+soughtListening (Read s r) = 0
+soughtListening (Finish len s) = 0
+soughtListening (Find s k) = k
+
+-- the shelf number of a find
+abbrev pub sought : Call → ℕ
+sought (begin s) = 0
+sought (read s r) = 0
+sought (write s r ws) = 0
+sought (finish len s) = 0
+sought (publish s) = 0
+sought (settle len s) = 0
+sought (reclaim len s) = 0
+sought (abandon s) = 0
+sought (listen c) = soughtListening c
+
+-- what is told of record r, by the store's read and by the home record alone
+abbrev pub asRead : List ℕ → Desk → ℕ → ℕ → Told
+asRead img d s r = storeRules .call img d (read s r) .told
+
+abbrev pub asHome : List ℕ → Desk → ℕ → ℕ → Told
+asHome img d s r = home (homeWords img r)
+
+-- a search over records that ends at one of them, or says "none": what it tells, and how many records it looked at
+pub record Search : Type 0 where
+  pub told : Told
+  pub number : ℕ
+
+-- at the first that passes the test; at the last; and at the first, but the last record is not looked at
+abbrev pub firstEnd : ℕ → (ℕ → Bool) → Search
+firstEnd n p = cond (ltb (lowest n p) n) (record { told = foundAt (lowest n p); number = lowest n p + 1 }) (record { told = nothing; number = n })
+
+abbrev pub lastEnd : ℕ → (ℕ → Bool) → Search
+lastEnd n p =
+    record {
+      told = cond (ltb (lowest n (λ r. p (n - 1 - r))) n) (foundAt (n - 1 - lowest n (λ r. p (n - 1 - r)))) nothing;
+      number = n;
+    }
+
+abbrev pub earlyEnd : ℕ → (ℕ → Bool) → Search
+earlyEnd n p = firstEnd (n - 1) p
+
+-- find, where the store does not refuse it, by this search among records that are looked at in this way
+abbrev pub findingBy : (List ℕ → Desk → ℕ → ℕ → Told) → (ℕ → (ℕ → Bool) → Search) → Change
+findingBy look seek img d c y =
+    let x = seek (d .n) (λ r. eqb (getD (wordsTold (look img d (sessionOf c) r)) 0 0) (sought c)) in
+    searching (x .told) d (record { number = x .number; gives = look img d (sessionOf c) })
+
+abbrev pub findsBy : (List ℕ → Desk → ℕ → ℕ → Told) → (ℕ → (ℕ → Bool) → Search) → Rules
+findsBy look seek = past 19 (findingBy look seek)
+
 -- ---- the claim
 
 pub record Impostors : Type 0 where
@@ -266,3 +337,10 @@ pub record Impostors : Type 0 where
   pub names-lowest : Demand2 (names lowestReader) → ⊥
   pub names-last : Demand2 (names lastReader) → ⊥
   pub names-newest : Demand2 (names newestReader) → ⊥
+  -- find among home records only, the last match, and a search that stops one record early: they break demand 2 and demand 3
+  pub finds-home : Demand2 (findsBy asHome firstEnd) → ⊥
+  pub finds-last : Demand2 (findsBy asRead lastEnd) → ⊥
+  pub stops-early : Demand2 (findsBy asRead earlyEnd) → ⊥
+  pub looks-home : Demand3 (findsBy asHome firstEnd) → ⊥
+  pub looks-last : Demand3 (findsBy asRead lastEnd) → ⊥
+  pub looks-early : Demand3 (findsBy asRead earlyEnd) → ⊥

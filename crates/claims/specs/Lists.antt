@@ -10,6 +10,7 @@ use Rattle.desk.specs.declared.state.Desk.{Desk}
 use Rattle.commit.specs.Finish.{finishFault, finishEntries, sealEntries, finishReply}
 use Rattle.commit.specs.Settle.{settleFault, settleEntries, goHomeEntries, settleReply}
 use Rattle.commit.specs.Reclaim.{reclaimFault, reclaimEntries, clearEntries, reclaimReply}
+use Rattle.listening.specs.Finish.{listenFinishReply}
 use Rattle.recovery.specs.Recover.{logAt, recoverFault, recoverEntries, replayEntries, recoverReply}
 
 pub record Lists : Type 0 where
@@ -19,6 +20,8 @@ pub record Lists : Type 0 where
       → Tidy (settleFault img d len s) (settleReply img d len s .entries) (settleEntries img d len s)
   pub reclaim : (img : List ℕ) (d : Desk) (len s : ℕ)
       → Tidy (reclaimFault img d len s) (reclaimReply img d len s .entries) (reclaimEntries img d len s)
+  -- the listening room's finish lists none
+  pub listen-finish : (img : List ℕ) (d : Desk) (len s : ℕ) → listenFinishReply img d len s .entries ≡ 0
   pub recover : (img : List ℕ) (len : ℕ) → Tidy (recoverFault img len) (recoverReply img len .entries) (recoverEntries img len)
   -- the entry counts, c being the number of copies
   pub finish-count : (d : Desk) (s : ℕ) → length (sealEntries d s) ≡ 5 * sessionAt d s .count + 4

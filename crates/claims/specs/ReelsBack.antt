@@ -15,9 +15,16 @@ use Rattle.reels.specs.Write.{writeReelReply}
 use Rattle.reels.specs.declared.reel.Reel.{Reel}
 use Rattle.reels.specs.declared.unpacking.ReelAnswer.the-variants.{Found}
 use Rattle.reels.specs.declared.reading.ReadReelReply.{ReadReelReply}
-use Rattle.history.specs.Call.{Call, begin, read, write, abandon, finish, publish, settle, reclaim}
+use Rattle.history.specs.Call.{Listening, Begin, Read, Finish, Find, Call, begin, read, write, abandon, finish, publish, settle, reclaim, listen}
 use Rattle.claims.specs.Rules.{storeRules}
 use Rattle.claims.specs.Run.{World, opened, run}
+
+-- of the listening room's calls
+abbrev pub besidesListening : ℕ → Listening → Bool
+besidesListening s (Begin t) = not (eqb t s)
+besidesListening s (Read t r) = true
+besidesListening s (Finish len t) = true
+besidesListening s (Find t k) = true
 
 -- a call that may stand between: no begin of the session, which would be another transaction's, and no other write of the record by it
 abbrev pub besides : ℕ → ℕ → Call → Bool
@@ -29,6 +36,7 @@ besides s r (finish len t) = true
 besides s r (publish t) = true
 besides s r (settle len t) = true
 besides s r (reclaim len t) = true
+besides s r (listen c) = besidesListening s c
 
 unfoldable pub allBesides : ℕ → ℕ → List Call → Bool
 allBesides s r [] = true

@@ -1,4 +1,4 @@
--- Document 01, "What is turned away", as one table: the causes with their numbers, and for each call the row of causes that it asks, in
+-- Document 01, "What is turned away", with the rows of document 02's Req 03, as one table: the causes with their numbers, and for each call the row of causes that it asks, in
 -- order. The number told is that of the first cause in the row that holds, 0 where none does; with it go the values that the table lists,
 -- and a refusal leaves as it was what the table says.
 use Prim.Native.Nat.{ℕ, _+_, _-_, _*_}
@@ -19,8 +19,10 @@ use Rattle.desk.specs.declared.state.Phase.{Phase}
 use Rattle.desk.specs.declared.state.Desk.{Desk}
 use Rattle.snapshot.specs.Own.{zeroWords}
 use Rattle.snapshot.specs.Read.{readReply}
+use Rattle.reels.specs.Reel.{shelfB}
+use Rattle.listening.specs.Read.{listenReadReply}
 use Rattle.recovery.specs.Open.{freshDesk}
-use Rattle.history.specs.Call.{Call, begin, read, write, abandon, finish, publish, settle, reclaim}
+use Rattle.history.specs.Call.{Listening, Begin, Read, Finish, Find, Call, begin, read, write, abandon, finish, publish, settle, reclaim, listen}
 use Rattle.claims.specs.Rules.{storeRules}
 
 -- ---- the table's first two columns
@@ -44,6 +46,9 @@ pub data Cause : Type 0 where
   logUnsound : Cause
   logsTied : Cause
   outOfRange : Cause
+  -- document 02: shelf number out of range; the session holds copies
+  wrongShelf : Cause
+  copiesHeld : Cause
 
 abbrev pub number : Cause → ℕ
 number wrongImage = 1
@@ -62,6 +67,8 @@ number slotOccupied = 11
 number logUnsound = 12
 number logsTied = 13
 number outOfRange = 14
+number wrongShelf = 15
+number copiesHeld = 18
 
 -- what a call is given; a field that it does not take is in no cause of its row
 pub record Given : Type 0 where
@@ -70,6 +77,7 @@ pub record Given : Type 0 where
   pub trace : ℕ
   pub session : ℕ
   pub rec : ℕ
+  pub shelf : ℕ
   pub allows : Phase → Bool
   pub n : ℕ
   pub m : ℕ
@@ -114,6 +122,8 @@ holds slotOccupied g = occupiedB (g .image) (recordsOf (g .image)) (2 * sessions
 holds logUnsound g = anyBelow (2 * sessionsOf (g .image)) (unsoundAt (g .image))
 holds logsTied g = anyBelow (2 * sessionsOf (g .image)) (λ p. anyBelow p (tiedAt (g .image) p))
 holds outOfRange g = not (inRange (g .n) (g .m))
+holds wrongShelf g = not (shelfB (g .shelf))
+holds copiesHeld g = not (eqb (copiesCounted g) 0)
 
 -- the number of the first cause that holds, 0 where none does
 unfoldable pub firstRefusal : List Cause → Given → ℕ
@@ -131,6 +141,12 @@ openRow = wrongImage ∷ slotOccupied ∷ []
 abbrev pub recoverRow : List Cause
 recoverRow = wrongImage ∷ shortTrace ∷ logUnsound ∷ logsTied ∷ []
 
+abbrev pub listeningRow : Listening → List Cause
+listeningRow (Begin s) = incoherent ∷ noSession ∷ wrongPhase ∷ []
+listeningRow (Read s r) = wrongImage ∷ incoherent ∷ otherSize ∷ noSession ∷ noRecord ∷ wrongPhase ∷ copiesHeld ∷ []
+listeningRow (Finish len s) = wrongImage ∷ incoherent ∷ otherSize ∷ shortTrace ∷ noSession ∷ wrongPhase ∷ copiesHeld ∷ []
+listeningRow (Find s k) = wrongShelf ∷ wrongImage ∷ incoherent ∷ otherSize ∷ noSession ∷ wrongPhase ∷ copiesHeld ∷ []
+
 abbrev pub row : Call → List Cause
 row (begin s) = incoherent ∷ noSession ∷ wrongPhase ∷ []
 row (read s r) = wrongImage ∷ incoherent ∷ otherSize ∷ noSession ∷ noRecord ∷ wrongPhase ∷ []
@@ -141,27 +157,36 @@ row (finish len s) = wrongImage ∷ incoherent ∷ otherSize ∷ shortTrace ∷ 
 row (publish s) = incoherent ∷ noSession ∷ wrongPhase ∷ []
 row (settle len s) = wrongImage ∷ incoherent ∷ otherSize ∷ shortTrace ∷ noSession ∷ wrongPhase ∷ []
 row (reclaim len s) = wrongImage ∷ incoherent ∷ otherSize ∷ shortTrace ∷ noSession ∷ []
+row (listen c) = listeningRow c
 
 -- ---- what the calls are given
 
 -- lay, open and recover take no desk, session or record
 abbrev pub ofImage : List ℕ → ℕ → ℕ → ℕ → Given
 ofImage img len n m =
-    record { image = img; desk = freshDesk 0 0 0; trace = len; session = 0; rec = 0; allows = λ p. true; n = n; m = m }
+    record { image = img; desk = freshDesk 0 0 0; trace = len; session = 0; rec = 0; shelf = 0; allows = λ p. true; n = n; m = m }
 
-abbrev pub ofCall : List ℕ → Desk → ℕ → ℕ → ℕ → (Phase → Bool) → Given
-ofCall img d len s r allows = record { image = img; desk = d; trace = len; session = s; rec = r; allows = allows; n = 0; m = 0 }
+abbrev pub ofCall : List ℕ → Desk → ℕ → ℕ → ℕ → ℕ → (Phase → Bool) → Given
+ofCall img d len s r k allows =
+    record { image = img; desk = d; trace = len; session = s; rec = r; shelf = k; allows = allows; n = 0; m = 0 }
 
 -- a session call, with the phases that allow it
+abbrev pub givenListening : List ℕ → Desk → Listening → Given
+givenListening img d (Begin s) = ofCall img d 0 s 0 0 isIdle
+givenListening img d (Read s r) = ofCall img d 0 s r 0 isActive
+givenListening img d (Finish len s) = ofCall img d len s 0 0 isActive
+givenListening img d (Find s k) = ofCall img d 0 s 0 k isActive
+
 abbrev pub given : List ℕ → Desk → Call → Given
-given img d (begin s) = ofCall img d 0 s 0 isIdle
-given img d (read s r) = ofCall img d 0 s r isActive
-given img d (write s r ws) = ofCall img d 0 s r isActive
-given img d (abandon s) = ofCall img d 0 s 0 isActive
-given img d (finish len s) = ofCall img d len s 0 isActive
-given img d (publish s) = ofCall img d 0 s 0 isSealed
-given img d (settle len s) = ofCall img d len s 0 isPublished
-given img d (reclaim len s) = ofCall img d len s 0 (λ p. true)
+given img d (begin s) = ofCall img d 0 s 0 0 isIdle
+given img d (read s r) = ofCall img d 0 s r 0 isActive
+given img d (write s r ws) = ofCall img d 0 s r 0 isActive
+given img d (abandon s) = ofCall img d 0 s 0 0 isActive
+given img d (finish len s) = ofCall img d len s 0 0 isActive
+given img d (publish s) = ofCall img d 0 s 0 0 isSealed
+given img d (settle len s) = ofCall img d len s 0 0 isPublished
+given img d (reclaim len s) = ofCall img d len s 0 0 (λ p. true)
+given img d (listen c) = givenListening img d c
 
 -- ---- the table's last two columns
 
@@ -202,6 +227,8 @@ pub record Refusals : Type 0 where
   -- a refused read gives four zeros
   pub read-words : (img : List ℕ) (d : Desk) (s r : ℕ) → (firstRefusal (row (read s r)) (given img d (read s r)) ≡ 0 → ⊥)
       → readReply img d s r .words ≡ zeroWords
+  pub listen-read-words : (img : List ℕ) (d : Desk) (s r : ℕ)
+      → (firstRefusal (listeningRow (Read s r)) (givenListening img d (Read s r)) ≡ 0 → ⊥) → listenReadReply img d s r .words ≡ zeroWords
   -- a refusal stores nothing
   pub calls-store : (img : List ℕ) (d : Desk) (c : Call) → (firstRefusal (row c) (given img d c) ≡ 0 → ⊥)
       → StoresNothing (storeRules .call img d c .count) (storeRules .call img d c .entries)

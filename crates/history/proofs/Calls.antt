@@ -4,7 +4,7 @@ use mathlib.Core.Path.{_≡_, sym, fun-ext}
 use mathlib.Core.List.{List}
 use Rattle.layout.specs.Entries.{made}
 use Rattle.history.specs.Layout.{view}
-use Rattle.history.specs.Call.{Call, begin, read, write, abandon, finish, publish, settle, reclaim}
+use Rattle.history.specs.Call.{Call, begin, read, write, abandon, finish, publish, settle, reclaim, listen}
 use Rattle.history.specs.Desk.{Desk}
 use Rattle.history.specs.Due.{Due, dueOf, due}
 use Rattle.history.specs.History.{History}
@@ -18,6 +18,7 @@ use Rattle.history.proofs.KeptFinish.{finish-done}
 use Rattle.history.proofs.KeptPublish.{publish-done}
 use Rattle.history.proofs.KeptSettle.{settle-done}
 use Rattle.history.proofs.KeptReclaim.{reclaim-done}
+use Rattle.history.proofs.KeptListening.{listening-done}
 
 module _ (N M : ℕ) (img : List ℕ) (d : Desk) (h : History) (H : Holds N M img d h) where
   done : (c : Call) → Done N M img d h c (dueOf N M (view N img .number) d h c)
@@ -29,6 +30,7 @@ module _ (N M : ℕ) (img : List ℕ) (d : Desk) (h : History) (H : Holds N M im
   done (publish s) = publish-done N M img d h H s
   done (settle len s) = settle-done N M img d h H len s
   done (reclaim len s) = reclaim-done N M img d h H len s
+  done (listen c) = listening-done N M img d h H c
 
 -- the invariant between the calls
 pub record Held (N M : ℕ) (img : List ℕ) (L : Ledger) : Type 0 where

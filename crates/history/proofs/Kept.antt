@@ -11,11 +11,11 @@ use lib.Dec.{T, eqb, leb, nleb→lt}
 use Rattle.layout.specs.Crash.{crashed as cut}
 use Rattle.layout.specs.Entries.{Entry, made}
 use Rattle.layout.specs.Image.{slotAt}
-use Rattle.layout.specs.Told.{Told, refusal}
+use Rattle.layout.specs.Told.{Told, refusal, empty}
 use Rattle.journal.proofs.LogFacts.{Sound}
 use Rattle.history.specs.Log.{Occupied, Final}
 use Rattle.history.specs.Layout.{body, logOf, view, Good}
-use Rattle.history.specs.Call.{Call, begin, read, write, abandon, finish, publish, settle, reclaim}
+use Rattle.history.specs.Call.{Listening, Begin, Read, Finish, Find, Call, begin, read, write, abandon, finish, publish, settle, reclaim, listen}
 use Rattle.history.specs.Cut.{feedCut}
 use Rattle.history.specs.Desk.{Copy, spot, idle, active, Desk, withSession}
 use Rattle.history.specs.Due.{Due, say, refuse, ifRoom, ifSession, ifRecord}
@@ -71,6 +71,13 @@ module _ (N M : ℕ) (img : List ℕ) (d : Desk) (h : History) (H : Holds N M im
       → ((p : ℕ) → view N img .number p ≡ noteNumber c t (view N img .number) d p) → Done N M img d h c (say t)
   same c t e f ed en = said c t d e (rw f (record { clock = omega arith; views = λ σ r l. refl })) (rw f (H .inv)) ed en
 
+  -- a refusal of the listening room changes nothing
+  refusing-listening : (c : Listening) (k : ℕ) → Done N M img d h (listen c) (refuse k)
+  refusing-listening (Begin s) k = same (listen (Begin s)) (refusal k) (λ _. refl) refl refl (λ _. refl)
+  refusing-listening (Read s r) k = same (listen (Read s r)) (refusal k) (λ _. refl) refl refl (λ _. refl)
+  refusing-listening (Finish len s) k = same (listen (Finish len s)) (refusal k) (λ _. refl) refl refl (λ _. refl)
+  refusing-listening (Find s n) k = same (listen (Find s n)) (refusal k) (λ _. refl) refl refl (λ _. refl)
+
   -- a refusal but 7 changes nothing
   pub refusing : (c : Call) (k : ℕ) → eqb k 7 ≡ false → Done N M img d h c (refuse k)
   refusing (begin s) k e = same (begin s) (refusal k) (λ _. refl) refl refl (λ _. refl)
@@ -81,6 +88,7 @@ module _ (N M : ℕ) (img : List ℕ) (d : Desk) (h : History) (H : Holds N M im
   refusing (publish s) k e = same (publish s) (refusal k) (λ _. refl) refl refl (λ _. refl)
   refusing (settle len s) k e = same (settle len s) (refusal k) (λ _. refl) refl refl (λ _. refl)
   refusing (reclaim len s) k e = same (reclaim len s) (refusal k) (λ _. refl) refl refl (λ _. refl)
+  refusing (listen c) k e = refusing-listening c k
 
   -- past the checks 3, 4 and 5
   pub past-room : (c : Call) (len : ℕ) (y : Due) → Done N M img d h c y → Done N M img d h c (ifRoom len y)
@@ -106,6 +114,14 @@ module _ (N M : ℕ) (img : List ℕ) (d : Desk) (h : History) (H : Holds N M im
   -- a session that becomes idle
   pub idles : (s b q : ℕ) (cs : List Copy) (h′ : History) → d .session s ≡ active b q cs → s < M → Quiet s h h′ → Inv N M (view N img) (withSession s idle d) h′
   idles s b q cs h′ e l qu = quiet N M (view N img) d h h′ s idle (H .inv) l (rw e tt) tt qu tt (λ u lu n r y z m k. m) (λ σ st. absurd st)
+
+  -- by a finish without copies
+  pub left-empty : (c : Call) (s b q : ℕ) → d .session s ≡ active b q [] → s < M → ((img′ : List ℕ) → feedCut N d c empty img′ h ≡ h) → feed c empty h ≡ h
+      → withSession s idle d ≡ noteDesk c empty (view N img .number) d → ((p : ℕ) → view N img .number p ≡ noteNumber c empty (view N img .number) d p)
+      → Done N M img d h c (say empty)
+  left-empty c s b q is l e f ed en =
+      said c empty (withSession s idle d) e (rw f (record { clock = omega arith; views = λ σ u k. refl }))
+      (rw f (idles s b q [] h is l (record { opening = refl; sealed = refl; drafts = λ u n. refl; starts = λ u n. refl }))) ed en
 
   pub emptied : (s : ℕ) → Quiet s h (drafted s [] h)
   emptied s = record { opening = refl; sealed = refl; drafts = λ u n. upd-other s [] (h .draft) u n; starts = λ u n. refl }

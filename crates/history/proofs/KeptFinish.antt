@@ -11,7 +11,7 @@ use lib.Dec.{T, eqb, leb, eqb→eq}
 use Rattle.layout.specs.Crash.{crashed as cut}
 use Rattle.layout.specs.Entries.{made}
 use Rattle.layout.specs.Image.{placeOf, slotAt}
-use Rattle.layout.specs.Told.{empty, sealedAt}
+use Rattle.layout.specs.Told.{sealedAt}
 use Rattle.history.specs.Log.{In, Occupied}
 use Rattle.history.specs.Layout.{Home, body, logOf, view}
 use Rattle.desk.specs.Coherent.{limit}
@@ -31,7 +31,7 @@ use Rattle.history.proofs.Invariant.{Active}
 use Rattle.history.proofs.LogForm.{bodyAt, body-denotes, body-sound, log-batch}
 use Rattle.history.proofs.MoveSeal.{seal, place-in}
 use Rattle.history.proofs.Slots.{finish-fit, finish-bodies, finish-numbers, finish-homes, finish-outside}
-use Rattle.history.proofs.Kept.{Holds, Crashed, crashed, Done, said, refusing, past-room, past-session, idles}
+use Rattle.history.proofs.Kept.{Holds, Crashed, crashed, Done, refusing, past-room, past-session, left-empty}
 
 module _ (N M : ℕ) (img : List ℕ) (d : Desk) (h : History) (H : Holds N M img d h) (len s : ℕ) where
   module _ (l : s < M) (b q : ℕ) (cs : List Copy) (is : d .session s ≡ active b q cs) (some-copy : 1 ≤ length cs) where
@@ -158,8 +158,7 @@ module _ (N M : ℕ) (img : List ℕ) (d : Desk) (h : History) (H : Holds N M im
   finish-at : s < M → (x : Session) → d .session s ≡ x → Done N M img d h (finish len s) (finishes N (d .clock) s x)
   finish-at l idle e = refusing N M img d h H (finish len s) 6 refl
   finish-at l (active b q []) e =
-      said N M img d h H (finish len s) empty _ (λ _. refl) (record { clock = omega arith; views = λ σ u k. refl })
-      (idles N M img d h H s b q [] h e l (record { opening = refl; sealed = refl; drafts = λ u n. refl; starts = λ u n. refl })) refl (λ _. refl)
+      left-empty N M img d h H (finish len s) s b q e l (λ _. refl) refl refl (λ _. refl)
   finish-at l (active b q (c ∷ cs)) e = go (leb limit (d .clock))
     where
       go : (t : Bool) → Done N M img d h (finish len s) (cond t (refuse 10) (record { answer = sealedAt (d .clock); entries = finishStores N (placeOf s q) (d .clock) (c ∷ cs) }))

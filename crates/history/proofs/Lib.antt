@@ -26,5 +26,6 @@ pub mod KeptWrite
 pub mod KeptFinish
 pub mod KeptSettle
 pub mod KeptReclaim
+pub mod KeptListening
 pub mod ReadDue
 pub mod Calls

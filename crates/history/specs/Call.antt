@@ -1,7 +1,14 @@
--- The session calls, with whatever a caller may pass: any session, record and words, and any length of the trace, which finish, settle and
--- reclaim take first.
+-- The session calls, with whatever a caller may pass: any session, record, words and number, and any length of the trace, which finish,
+-- settle and reclaim take first.
 use Prim.Native.Nat.{ℕ}
 use mathlib.Core.List.{List}
+
+-- the calls of the listening room (document 02, Req 03); find takes a session and a shelf number
+pub data Listening : Type 0 where
+  Begin : ℕ → Listening
+  Read : ℕ → ℕ → Listening
+  Finish : ℕ → ℕ → Listening
+  Find : ℕ → ℕ → Listening
 
 pub data Call : Type 0 where
   begin : ℕ → Call
@@ -12,3 +19,4 @@ pub data Call : Type 0 where
   publish : ℕ → Call
   settle : ℕ → ℕ → Call
   reclaim : ℕ → ℕ → Call
+  listen : Listening → Call

@@ -5,7 +5,7 @@ use mathlib.Core.List.{List}
 use lib.Dec.{eqb}
 use Rattle.layout.specs.Image.{word, placeOf, slotAt}
 use Rattle.layout.specs.Told.{Told, is, valueOf, Sealed}
-use Rattle.history.specs.Call.{Call, begin, read, write, abandon, finish, publish, settle, reclaim}
+use Rattle.history.specs.Call.{Call, begin, read, write, abandon, finish, publish, settle, reclaim, listen}
 use Rattle.history.specs.Desk.{Desk}
 use Rattle.history.specs.History.{History, sealing}
 use Rattle.history.specs.Ledger.{slotOf}
@@ -24,3 +24,4 @@ feedCut N d (finish len s) t img h = cond (is Sealed t) (cond (numberArrived N d
 feedCut N d (publish s) t img h = h
 feedCut N d (settle len s) t img h = h
 feedCut N d (reclaim len s) t img h = h
+feedCut N d (listen c) t img h = h

@@ -1,18 +1,18 @@
 -- What is due by document 01's rules: from the ledger alone, what a call tells and the entries that it stores, in a store of N records and
 -- M sessions.
 use Prim.Native.Nat.{ℕ, zero, suc, _*_}
-use mathlib.Core.Bool.{Bool, true, false, cond}
+use mathlib.Core.Bool.{Bool, true, false, cond, _&&_}
 use mathlib.Core.Option.{Option, none, some}
 use mathlib.Core.List.{List, [], _∷_, _++_}
 use lib.ListN.{length, getD}
 use lib.Dec.{eqb, leb, ltb}
 use Rattle.layout.specs.Entries.{Entry, store, fence, stores, shift}
 use Rattle.layout.specs.Image.{placeOf, slotAt}
-use Rattle.layout.specs.Told.{Told, refused, refusal, ok, start, own, copied, home, empty, sealedAt, endedAt, wait, nothing, held, cleared}
+use Rattle.layout.specs.Told.{Told, refused, refusal, ok, start, own, copied, home, empty, sealedAt, endedAt, wait, nothing, held, cleared, foundAt}
 use Rattle.desk.specs.Coherent.{limit}
 use Rattle.journal.specs.Log.{logEntries}
-use Rattle.history.specs.Call.{Call, begin, read, write, abandon, finish, publish, settle, reclaim}
-use Rattle.history.specs.Desk.{Copy, find, recAt, wordsAt, writes, Session, idle, active, sealed, published, Desk, holder, awaited}
+use Rattle.history.specs.Call.{Listening, Begin, Read, Finish, Find, Call, begin, read, write, abandon, finish, publish, settle, reclaim, listen}
+use Rattle.history.specs.Desk.{Copy, find, recAt, wordsAt, writes, Session, idle, active, sealed, published, Desk, firstOf, holder, awaited}
 use Rattle.history.specs.History.{History, viewAt}
 use Rattle.history.specs.Ledger.{Ledger, candidate}
 
@@ -162,6 +162,54 @@ ifSession M s y = cond (leb M s) (refuse 4) y
 abbrev pub ifRecord : ℕ → ℕ → Due → Due
 ifRecord N r y = cond (leb N r) (refuse 5) y
 
+-- ---- the listening room (document 02, Req 03)
+
+-- 15 shelf number out of range, asked before all others
+abbrev pub ifShelf : ℕ → Due → Due
+ifShelf k y = cond (leb 1 k && leb k 999999) y (refuse 15)
+
+-- 18 the session holds copies, asked behind 6
+abbrev pub ifNoCopies : List Copy → Due → Due
+ifNoCopies [] y = y
+ifNoCopies (c ∷ cs) y = refuse 18
+
+abbrev pub hears : ℕ → Desk → History → ℕ → Session → Due
+hears M d h r idle = refuse 6
+hears M d h r (active b q cs) = ifNoCopies cs (readsOther (shownBy b d (holder M d r)) (viewAt h b r))
+hears M d h r (sealed n q cs) = refuse 6
+hears M d h r (published e q cs) = refuse 6
+
+abbrev pub leaves : Session → Due
+leaves idle = refuse 6
+leaves (active b q cs) = ifNoCopies cs (say empty)
+leaves (sealed n q cs) = refuse 6
+leaves (published e q cs) = refuse 6
+
+-- the first record whose word 0, as the history's view at the start b has it, is k
+abbrev pub shelvedAt : History → ℕ → ℕ → ℕ → Bool
+shelvedAt h b k r = eqb (getD (viewAt h b r) 0 0) k
+
+abbrev pub firstShelved : ℕ → History → ℕ → ℕ → Option ℕ
+firstShelved N h b k = firstOf (shelvedAt h b k) N
+
+abbrev pub finds : Option ℕ → Due
+finds none = say nothing
+finds (some r) = say (foundAt r)
+
+abbrev pub searches : ℕ → History → ℕ → Session → Due
+searches N h k idle = refuse 6
+searches N h k (active b q cs) = ifNoCopies cs (finds (firstShelved N h b k))
+searches N h k (sealed n q cs) = refuse 6
+searches N h k (published e q cs) = refuse 6
+
+abbrev pub dueListening : ℕ → ℕ → Desk → History → Listening → Due
+dueListening N M d h (Begin s) = ifSession M s (begins (d .clock) (d .session s))
+dueListening N M d h (Read s r) = ifSession M s (ifRecord N r (hears M d h r (d .session s)))
+dueListening N M d h (Finish len s) = ifRoom len (ifSession M s (leaves (d .session s)))
+dueListening N M d h (Find s k) = ifShelf k (ifSession M s (searches N h k (d .session s)))
+
+-- ---- all calls
+
 -- of the slots' numbers, the desk and the history
 abbrev pub dueOf : ℕ → ℕ → (ℕ → ℕ) → Desk → History → Call → Due
 dueOf N M f d h (begin s) = ifSession M s (begins (d .clock) (d .session s))
@@ -172,6 +220,7 @@ dueOf N M f d h (finish len s) = ifRoom len (ifSession M s (finishes N (d .clock
 dueOf N M f d h (publish s) = ifSession M s (publishes (d .clock) (d .session s))
 dueOf N M f d h (settle len s) = ifRoom len (ifSession M s (settles M d (d .session s)))
 dueOf N M f d h (reclaim len s) = ifRoom len (ifSession M s (reclaims N M f s (candidate f s (d .session s))))
+dueOf N M f d h (listen c) = dueListening N M d h c
 
 unfoldable pub due : ℕ → ℕ → Ledger → Call → Due
 due N M L c = dueOf N M (L .number) (L .desk) (L .history) c

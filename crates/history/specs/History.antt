@@ -5,7 +5,7 @@ use mathlib.Core.Option.{Option, none, some}
 use mathlib.Core.List.{List, [], _∷_, _++_}
 use lib.Dec.{eqb, leb}
 use Rattle.layout.specs.Told.{Told, is, refusedBy, valueOf, Ok, Start, Sealed, End}
-use Rattle.history.specs.Call.{Call, begin, read, write, abandon, finish, publish, settle, reclaim}
+use Rattle.history.specs.Call.{Listening, Begin, Read, Finish, Find, Call, begin, read, write, abandon, finish, publish, settle, reclaim, listen}
 use Rattle.history.specs.Desk.{Copy, find, put, upd}
 
 -- an entry of the list: its session, what it wrote, and its end once it is published
@@ -21,7 +21,7 @@ pub record History : Type 0 where
   pub draft : ℕ → List Copy
   pub start : ℕ → ℕ
 
--- begin with a start notes it and empties the session's draft
+-- the history with the session's draft empty and its start noted
 abbrev pub started : ℕ → ℕ → History → History
 started s b h = record { opening = h .opening; sealed = h .sealed; draft = upd s [] (h .draft); start = upd s b (h .start) }
 
@@ -55,9 +55,20 @@ ended s e (x ∷ xs) = cond (entered s xs) (x ∷ ended s e xs) (cond (eqb (x .s
 abbrev pub ending : ℕ → ℕ → History → History
 ending s e h = record { opening = h .opening; sealed = ended s e (h .sealed); draft = h .draft; start = h .start }
 
+-- begin with a start notes it and empties the session's draft
+abbrev pub feedBegin : ℕ → Told → History → History
+feedBegin s t h = cond (is Start t) (started s (valueOf t) h) h
+
+-- of the listening room's calls
+abbrev pub feedListening : Listening → Told → History → History
+feedListening (Begin s) t h = feedBegin s t h
+feedListening (Read s r) t h = h
+feedListening (Finish len s) t h = h
+feedListening (Find s k) t h = h
+
 -- write ok sets the record's words in the draft; abandon ok and refusal 7 empty the draft; any other answer changes nothing
 abbrev pub feed : Call → Told → History → History
-feed (begin s) t h = cond (is Start t) (started s (valueOf t) h) h
+feed (begin s) t h = feedBegin s t h
 feed (read s r) t h = h
 feed (write s r ws) t h = cond (is Ok t) (drafted s (put r ws (h .draft s)) h) (cond (refusedBy 7 t) (drafted s [] h) h)
 feed (abandon s) t h = cond (is Ok t) (drafted s [] h) h
@@ -65,6 +76,7 @@ feed (finish len s) t h = cond (is Sealed t) (sealing s h) h
 feed (publish s) t h = cond (is End t) (ending s (valueOf t) h) h
 feed (settle len s) t h = h
 feed (reclaim len s) t h = h
+feed (listen c) t h = feedListening c t h
 
 -- the words of an entry that has the record, else those before it
 abbrev pub over : Option (List ℕ) → List ℕ → List ℕ

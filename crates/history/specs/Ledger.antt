@@ -6,7 +6,7 @@ use mathlib.Core.List.{List, [], _∷_}
 use lib.Dec.{eqb, leb}
 use Rattle.layout.specs.Image.{placeOf}
 use Rattle.layout.specs.Told.{Told, is, refusedBy, valueOf, Ok, Start, Empty, Sealed, End, Cleared}
-use Rattle.history.specs.Call.{Call, begin, read, write, abandon, finish, publish, settle, reclaim}
+use Rattle.history.specs.Call.{Listening, Begin, Read, Finish, Find, Call, begin, read, write, abandon, finish, publish, settle, reclaim, listen}
 use Rattle.history.specs.Desk.{Copy, put, Session, idle, active, sealed, published, Desk, upd, withSession}
 use Rattle.history.specs.History.{History, feed}
 
@@ -46,9 +46,20 @@ endedWith e (published f q cs) = published f q cs
 abbrev pub ticked : Desk → Desk
 ticked d = record { clock = suc (d .clock); session = d .session }
 
+-- begin with a start: the session is active with it
+abbrev pub noteBegin : ℕ → Told → Desk → Desk
+noteBegin s t d = cond (is Start t) (withSession s (active (valueOf t) 0 []) d) d
+
+-- of the listening room's calls
+abbrev pub noteListening : Listening → Told → Desk → Desk
+noteListening (Begin s) t d = noteBegin s t d
+noteListening (Read s r) t d = d
+noteListening (Finish len s) t d = cond (is Empty t) (withSession s idle d) d
+noteListening (Find s k) t d = d
+
 -- the clock and the sessions after a call, by what it tells; f has the slots' numbers
 abbrev pub noteDesk : Call → Told → (ℕ → ℕ) → Desk → Desk
-noteDesk (begin s) t f d = cond (is Start t) (withSession s (active (valueOf t) 0 []) d) d
+noteDesk (begin s) t f d = noteBegin s t d
 noteDesk (read s r) t f d = d
 noteDesk (write s r ws) t f d =
     cond (is Ok t) (withSession s (copying s r ws f (d .session s)) d) (cond (refusedBy 7 t) (withSession s idle d) d)
@@ -58,6 +69,7 @@ noteDesk (finish len s) t f d =
 noteDesk (publish s) t f d = cond (is End t) (withSession s (endedWith (valueOf t) (d .session s)) (ticked d)) d
 noteDesk (settle len s) t f d = cond (is Ok t) (withSession s idle d) d
 noteDesk (reclaim len s) t f d = d
+noteDesk (listen c) t f d = noteListening c t d
 
 -- ---- the slots
 
@@ -102,6 +114,7 @@ noteNumber (finish len s) t f d = cond (is Sealed t) (upd (placeOf s (slotOf (d 
 noteNumber (publish s) t f d = f
 noteNumber (settle len s) t f d = f
 noteNumber (reclaim len s) t f d = cond (is Cleared t) (emptied s (candidate f s (d .session s)) f) f
+noteNumber (listen c) t f d = f
 
 -- ---- the ledger after a call
 

@@ -7,4 +7,5 @@ pub mod Call
 pub mod History
 pub mod Ledger
 pub mod Due
+pub mod Looks
 pub mod Cut

@@ -24,6 +24,8 @@ pub data Result : Type 0 where
   Cleared : Result
   Clean : Result
   Replayed : Result
+  -- of the listening room's search (document 02, Req 03)
+  Found : Result
 
 -- "no K": the number, and with 7 the holder, with 12 the lowest such place; or a result with its number, and the words of a read. What a
 -- result does not use is 0 and no words.
@@ -77,6 +79,10 @@ clean = result Clean 0 []
 abbrev pub replayed : ℕ → Told
 replayed p = result Replayed p []
 
+-- with a record
+abbrev pub foundAt : ℕ → Told
+foundAt r = result Found r []
+
 -- a number for each result, to tell them apart
 abbrev pub codeOf : Result → ℕ
 codeOf Ok = 20
@@ -93,6 +99,7 @@ codeOf Held = 30
 codeOf Cleared = 31
 codeOf Clean = 32
 codeOf Replayed = 33
+codeOf Found = 38
 
 -- the same of what is told, 0 for a refusal
 abbrev pub codeTold : Told → ℕ

@@ -4,6 +4,7 @@ ghost use mathlib.Core.Path.{_≡_};
 ghost use lib.ListN.{length};
 use crate::input::within;
 use cases::Answered;
+use cases::ListeningRequest;
 use cases::ReelRequest;
 use cases::Request;
 use codec::Step;
@@ -31,8 +32,20 @@ fn reel_request_of(call: u64, session: u64, rec: u64) -> ReelRequest {
     }
 }
 
+fn listening_request_of(call: u64, session: u64, rec: u64, shelf: u64) -> ListeningRequest {
+    match call {
+        16 => ListeningRequest::Begin(session),
+        17 => ListeningRequest::Read(session, rec),
+        18 => ListeningRequest::Finish(session),
+        _ => ListeningRequest::Find(session, shelf),
+    }
+}
+
 fn request_of(words: [u64; 2454]) -> Request {
     let call = words[0];
+    if 15 < call {
+        return Request::Listening(listening_request_of(call, words[3], words[4], words[5]));
+    }
     if 10 < call {
         return Request::Reel(reel_request_of(call, words[3], words[4]));
     }
@@ -96,8 +109,8 @@ pub fn fields(mut words: [u64; 2454]) -> [u64; 11] {
     let got = r.words;
     let left = r.desk;
     let words_alone = (call == 11) | (call == 12) | (call == 15);
-    let image = (call != 1) & (call != 5) & (call != 8) & !words_alone;
-    let entries = (call == 4) | (call == 6) | (call == 7) | (call == 10);
+    let image = (call != 1) & (call != 5) & (call != 8) & (call != 16) & !words_alone;
+    let entries = (call == 4) | (call == 6) | (call == 7) | (call == 10) | (call == 18);
     let desk = (call != 0) & (call != 10) & !words_alone;
     let a = shown(image, image_digest(words));
     let b = shown(entries, trace_digest(trace, words[9]));

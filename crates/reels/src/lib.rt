@@ -14,6 +14,7 @@ pub use reading::ReadReelReply;
 pub use reading::read;
 pub use reel::Reel;
 pub use reel::reel_of;
+pub use reel::shelved;
 pub use reel::words_of;
 pub use tape::LengthAnswer;
 pub use tape::tape_length;

@@ -1,6 +1,6 @@
 // A reel: what the four words of a record mean, and which are good.
 ghost use mathlib.Core.Path.{_≡_};
-ghost use Rattle.reels.specs.Reel.{reelOf, wordsOf, noReel, allowedB, reelFault, unusedB};
+ghost use Rattle.reels.specs.Reel.{reelOf, wordsOf, noReel, shelfB, allowedB, reelFault, unusedB};
 
 pub struct Reel {
     pub shelf: u64,
@@ -47,13 +47,20 @@ fn allowed(carrier: u64, speed: u64) -> bool
     }
 }
 
+// Whether a shelf number is in range.
+pub fn shelved(number: u64) -> bool
+    ensures { λ r. ⌜ r ≡ shelfB number ⌝ }
+{
+    (1 <= number) & (number <= 999_999)
+}
+
 // The number that a reel is refused by; 0 where it is good.
 pub fn reel_fault(reel: Reel) -> u64
     ensures { λ r. ⌜ r ≡ reelFault reel ⌝ }
 {
-    let shelved = (1 <= reel.shelf) & (reel.shelf <= 999_999);
+    let numbered = shelved(reel.shelf);
     let runs = allowed(reel.carrier, reel.speed);
-    if !shelved {
+    if !numbered {
         return 15;
     }
     if !runs {

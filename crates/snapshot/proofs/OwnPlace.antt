@@ -23,3 +23,7 @@ module _ (d : Desk) (h : Coherent d) (r : ℕ) (l : r < 256) where
   -- and copies the record
   pub holder-copies : (markAt d r ≡ 0 → ⊥) → Copies (sessionAt d (markAt d r - 1)) r
   holder-copies n = h .marks r l .0 .1 (markAt d r - 1) holder-small .0 (omega arith)
+
+  -- in one of its four places, where the holder is known by an equation
+  pub holder-found : (k : ℕ) → k ≡ markAt d r - 1 → (markAt d r ≡ 0 → ⊥) → ownPlace (sessionAt d k) r < 4
+  holder-found k e n = rw e (own-found (sessionAt d (markAt d r - 1)) r (holder-copies n))

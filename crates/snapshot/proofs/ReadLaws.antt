@@ -1,44 +1,40 @@
 -- Read, case by case.
 use Prim.Native.Nat.{ℕ, _-_, _<_, _≤_}
-use mathlib.Core.Bool.{Bool, true, false, _&&_, not}
-use mathlib.Core.Path.{_≡_, sym, ap, _∙_}
+use mathlib.Core.Bool.{Bool, true, false, cond}
+use mathlib.Core.Path.{_≡_, refl, sym, ap, _∙_}
 use mathlib.Core.List.{List}
-use lib.Dec.{eqb}
 use borrow.Author.Tests.{lt-ltb, le-ltb}
 use Rattle.layout.specs.Checks.{unless, first, answered}
 use Rattle.layout.proofs.ChecksLaws.{first-assoc, answered-refused, answered-passed}
-use Rattle.layout.specs.Image.{homeWords}
 use Rattle.desk.specs.Desk.{sessionAt, markAt, copyAt, isActive}
 use Rattle.desk.specs.declared.state.Desk.{Desk}
 use Rattle.snapshot.specs.Own.{ownPlace}
-use Rattle.snapshot.specs.Read.{readFault, startOf, shownAt, copyShown, holderEntry, readGives, readRefused, readDone, readReply}
+use Rattle.snapshot.specs.Read.{readFault, startOf, copyShown, sight, sightOf, sightAt, readGives, readRefused, readDone, readReply}
 use Rattle.snapshot.specs.declared.reading.ReadAnswer.the-variants.{Own, Copy, Home}
-use Rattle.desk.proofs.Facts.{Coherent}
-use Rattle.snapshot.proofs.OwnPlace.{own-found, holder-copies}
+use Rattle.snapshot.specs.declared.seeing.Sight.{Sight}
 use Rattle.desk.proofs.RecordEntered.{recordFault}
 
--- whether the holder's copy is shown, from a start and a session that are known by equations
-pub shown-by : (d : Desk) (r start b k : ℕ) (x : Bool) → x ≡ shownAt b (sessionAt d k .phase) → b ≡ start → k ≡ markAt d r - 1
-    → (not (eqb (markAt d r) 0) && x) ≡ copyShown d start r
-shown-by d r start b k x e f g =
-    ap (λ y. not (eqb (markAt d r) 0) && y) (e ∙ ap (λ n. shownAt n (sessionAt d k .phase)) f ∙ ap (λ t. shownAt start (sessionAt d t .phase)) g)
-
--- the holder's place for the record, and its words
-place-by : (d : Desk) (r k j : ℕ) → j ≡ ownPlace (sessionAt d k) r → k ≡ markAt d r - 1 → j ≡ ownPlace (holderEntry d r) r
-place-by d r k j e f = e ∙ ap (λ t. ownPlace (sessionAt d t) r) f
-
-pub place-found : (d : Desk) (r k j : ℕ) → Coherent d → r < 256 → (markAt d r ≡ 0 → ⊥) → j ≡ ownPlace (sessionAt d k) r → k ≡ markAt d r - 1 → j < 4
-place-found d r k j h l n e f = rw (place-by d r k j e f) (own-found (holderEntry d r) r (holder-copies d h r l n))
-
-pub words-by : (d : Desk) (r k j : ℕ) → j ≡ ownPlace (sessionAt d k) r → k ≡ markAt d r - 1
-    → readGives d Copy (copyAt (sessionAt d k) j .words) ≡ readGives d Copy (copyAt (holderEntry d r) (ownPlace (holderEntry d r) r) .words)
-words-by d r k j e f =
-    ap (λ t. readGives d Copy (copyAt (sessionAt d t) j .words)) f ∙ ap (λ i. readGives d Copy (copyAt (holderEntry d r) i .words)) (place-by d r k j e f)
+-- what is seen of a record, from a start and a holder that are known by equations
+pub sight-by : (img : List ℕ) (d : Desk) (r start b k : ℕ) (x : Sight) → x ≡ sightOf img b r (markAt d r) (sessionAt d k) → b ≡ start → k ≡ markAt d r - 1
+    → x ≡ sightAt img d start r
+sight-by img d r start b k x e f g =
+    e ∙ ap (λ n. sightOf img n r (markAt d r) (sessionAt d k)) f ∙ ap (λ t. sightOf img start r (markAt d r) (sessionAt d t)) g
 
 module _ (img : List ℕ) (d : Desk) (s r : ℕ) where
   by-record : readReply img d s r ≡ answered (first (recordFault img d s r) (unless (isActive (sessionAt d s .phase)) 6)) (readRefused d) (readDone img d s r)
   unfolding readReply readFault
   by-record = rw first-assoc
+
+  -- past the checks, what a session sees of a record that it does not copy
+  pub seen-done : 4 ≤ ownPlace (sessionAt d s) r
+      → let x = sightAt img d (startOf (sessionAt d s .phase)) r in readDone img d s r ≡ readGives d (x .answer) (x .words)
+  unfolding sightOf
+  seen-done n = rw (le-ltb _ _ n) (go (copyShown d (startOf (sessionAt d s .phase)) r) _ _)
+    where
+      go : (b : Bool) (ws vs : List ℕ) → let x = cond b (sight Copy ws) (sight Home vs) in
+          cond b (readGives d Copy ws) (readGives d Home vs) ≡ readGives d (x .answer) (x .words)
+      go true ws vs = refl
+      go false ws vs = refl
 
   -- refused by 1, 2, 4 or 5
   pub read-refused : (k : ℕ) → k ≡ recordFault img d s r → (k ≡ 0 → ⊥) → readReply img d s r ≡ readRefused d k
@@ -58,9 +54,7 @@ module _ (img : List ℕ) (d : Desk) (s r : ℕ) where
       pub read-own : ownPlace (sessionAt d s) r < 4 → readReply img d s r ≡ readGives d Own (copyAt (sessionAt d s) (ownPlace (sessionAt d s) r) .words)
       read-own l = done ∙ rw (lt-ltb _ _ l)
 
-      module _ (n : 4 ≤ ownPlace (sessionAt d s) r) where
-        pub read-copy : copyShown d (startOf (sessionAt d s .phase)) r ≡ true → readReply img d s r ≡ readGives d Copy (copyAt (holderEntry d r) (ownPlace (holderEntry d r) r) .words)
-        read-copy c = done ∙ rw (le-ltb _ _ n, c)
-
-        pub read-home : copyShown d (startOf (sessionAt d s .phase)) r ≡ false → readReply img d s r ≡ readGives d Home (homeWords img r)
-        read-home c = done ∙ rw (le-ltb _ _ n, c)
+      -- a record that the session does not copy is what it sees of it
+      pub read-seen : 4 ≤ ownPlace (sessionAt d s) r → (x : Sight) → x ≡ sightAt img d (startOf (sessionAt d s .phase)) r
+          → readReply img d s r ≡ readGives d (x .answer) (x .words)
+      read-seen n x e = done ∙ seen-done n ∙ rw e refl

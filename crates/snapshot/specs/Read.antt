@@ -16,6 +16,7 @@ use Rattle.snapshot.specs.Own.{ownPlace, zeroWords}
 use Rattle.snapshot.specs.declared.reading.ReadAnswer.{ReadAnswer}
 use Rattle.snapshot.specs.declared.reading.ReadAnswer.the-variants.{Refused, Own, Copy, Home}
 use Rattle.snapshot.specs.declared.reading.ReadReply.{ReadReply}
+use Rattle.snapshot.specs.declared.seeing.Sight.{Sight}
 use Rattle.layout.specs.Told.{Told, refusal, own, copied, home}
 
 unfoldable pub readFault : List ℕ → Desk → ℕ → ℕ → ℕ
@@ -43,6 +44,17 @@ holderEntry d r = sessionAt d (markAt d r - 1)
 abbrev pub copyShown : Desk → ℕ → ℕ → Bool
 copyShown d start r = not (eqb (markAt d r) 0) && shownAt start (holderEntry d r .phase)
 
+-- what a reader with this start sees of record r, which it does not copy, by the record's mark and holder
+abbrev pub sight : ReadAnswer → List ℕ → Sight
+sight a ws = record { answer = a; words = ws }
+
+unfoldable pub sightOf : List ℕ → ℕ → ℕ → ℕ → Session → Sight
+sightOf img start r mark holder =
+    cond (not (eqb mark 0) && shownAt start (holder .phase)) (sight Copy (copyAt holder (ownPlace holder r) .words)) (sight Home (homeWords img r))
+
+abbrev pub sightAt : List ℕ → Desk → ℕ → ℕ → Sight
+sightAt img d start r = sightOf img start r (markAt d r) (holderEntry d r)
+
 abbrev pub readGives : Desk → ReadAnswer → List ℕ → ReadReply
 readGives d a ws = record { answer = a; words = ws; desk = d }
 
@@ -61,11 +73,13 @@ unfoldable pub readReply : List ℕ → Desk → ℕ → ℕ → ReadReply
 readReply img d s r = answered (readFault img d s r) (readRefused d) (readDone img d s r)
 
 -- what it tells: the words, and whose they are
-unfoldable pub readSaid : List ℕ → Desk → ℕ → ℕ → Told
-readSaid img d s r =
-    answered (readFault img d s r) refusal
-    (cond (ltb (ownPlace (sessionAt d s) r) 4)
+abbrev pub doneSaid : List ℕ → Desk → ℕ → ℕ → Told
+doneSaid img d s r =
+    cond (ltb (ownPlace (sessionAt d s) r) 4)
     (own (copyAt (sessionAt d s) (ownPlace (sessionAt d s) r) .words))
     (cond (copyShown d (startOf (sessionAt d s .phase)) r)
     (copied (copyAt (holderEntry d r) (ownPlace (holderEntry d r) r) .words))
-    (home (homeWords img r))))
+    (home (homeWords img r)))
+
+unfoldable pub readSaid : List ℕ → Desk → ℕ → ℕ → Told
+readSaid img d s r = answered (readFault img d s r) refusal (doneSaid img d s r)

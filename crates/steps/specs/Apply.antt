@@ -5,7 +5,7 @@ use mathlib.Core.List.{List, []}
 use Rattle.layout.specs.Entries.{Entry}
 use Rattle.layout.specs.Told.{Told, refused, result}
 use Rattle.layout.specs.Told.{Ok as TellsOk, Start as TellsStart, Own as TellsOwn, Copy as TellsCopy, Home as TellsHome, Empty as TellsEmpty, Sealed as TellsSealed}
-use Rattle.layout.specs.Told.{End as TellsEnd, Wait as TellsWait, None as TellsNone, Held as TellsHeld, Cleared as TellsCleared, Clean as TellsClean, Replayed as TellsReplayed}
+use Rattle.layout.specs.Told.{End as TellsEnd, Wait as TellsWait, None as TellsNone, Held as TellsHeld, Cleared as TellsCleared, Clean as TellsClean, Replayed as TellsReplayed, Found as TellsFound}
 use Rattle.desk.specs.Begin.{beginReply}
 use Rattle.desk.specs.Publish.{publishReply}
 use Rattle.desk.specs.Abandon.{abandonReply}
@@ -43,6 +43,7 @@ outcomeOf (result TellsHeld n ws) = Held n
 outcomeOf (result TellsCleared n ws) = Cleared n
 outcomeOf (result TellsClean n ws) = Noted
 outcomeOf (result TellsReplayed n ws) = Noted
+outcomeOf (result TellsFound n ws) = Noted
 
 -- a step that reads nothing: four zero words
 abbrev pub givesOf : Outcome → ℕ → Desk → Applied

@@ -33,6 +33,12 @@ enum-known-request-3 c = search needs
 ask-reel-requires : tie.Need-ask-reel-requires
 ask-reel-requires c κs = search needs
 
+enum-known-request-4 : tie.Need-enum-known-request-4
+enum-known-request-4 c = search needs
+
+ask-listening-requires : tie.Need-ask-listening-requires
+ask-listening-requires c κs = search needs
+
 same-length : tie.Need-same-length
 same-length c = search needs
 
@@ -74,6 +80,16 @@ returns-5 : tie.Need-returns-5
 unfolding askedOf askedImage askedTrace
 returns-5 c = let e = (c .before .before .before) .request3 .given .1 in (rw (c .ask-reel .ensures, e), (rw e, rw e))
 
+same-length-8 : tie.Need-same-length-8
+same-length-8 c = search needs
+
+same-length-9 : tie.Need-same-length-9
+same-length-9 c = search needs
+
+returns-6 : tie.Need-returns-6
+unfolding askedOf askedImage askedTrace
+returns-6 c = let e = (c .before .before .before .before .before .before .before .before) .request4 .given .1 in let w = (c .before .before .before .before) .ask-listening .ensures in (rw e (w .0), (rw e (w .1 .0), rw e (w .1 .1)))
+
 pub ask-spec : {M : Type 1} → statement M
 ask-spec =
     tie.close
@@ -88,6 +104,8 @@ ask-spec =
     ask-step-requires
     enum-known-request-3
     ask-reel-requires
+    enum-known-request-4
+    ask-listening-requires
     same-length
     returns
     same-length-2
@@ -99,4 +117,7 @@ ask-spec =
     same-length-6
     returns-4
     same-length-7
-    returns-5)
+    returns-5
+    same-length-8
+    same-length-9
+    returns-6)

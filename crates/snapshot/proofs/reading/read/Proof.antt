@@ -1,16 +1,11 @@
-use Rattle.snapshot.proofs.ReadLaws.{shown-by, place-found, words-by, read-refused, read-inactive, read-own, read-copy, read-home}
+use Rattle.snapshot.proofs.ReadLaws.{sight-by, read-refused, read-inactive, read-own, read-seen}
 use Rattle.desk.proofs.RecordEntered.{recordFault, RecordEntered, record-entered}
-use Rattle.snapshot.proofs.OwnPlace.{holder-small}
-use Rattle.desk.specs.Desk.{sessionAt, markAt}
+use Rattle.snapshot.proofs.OwnPlace.{holder-small, holder-found}
 use Rattle.desk.specs.declared.state.Desk.{Desk}
 use Prim.Native.Nat.{ℕ, _<_}
-use Rattle.snapshot.specs.Read.{copyShown, startOf}
-use Rattle.layout.proofs.Says.{says-and, says-ne, says-itself}
 use borrow.Author.Tests.{not-true, not-false}
-use lib.Dec.{eqb}
 use native.Mathlib.Omega.{arith}
 use mathlib.Core.Path.{_≡_, sym, _∙_}
-use mathlib.Core.Bool.{not, _&&_}
 use Rattle.snapshot.proofs.ToldLaws.{read-tells}
 use borrow.Author.Needs.{needs}
 use Rattle.snapshot.proofs.reading.read.Statement.{statement}
@@ -29,28 +24,12 @@ holder c =
     let f = facts (c .before .before .before .before .before .before .before) in
     rw (c .marked-session .ensures) (holder-small _ (f .session .coherent) _ (f .small))
 
--- the arguments, seen from where it is known whether the holder's copy is shown
-abbrev desk-at : tie.After-shown-at → Desk
-desk-at c = c .before .before .before .before .before .before .before .before .before .before .before .before .before .before .args .t2
+-- the desk and the record, seen from where the holder is known
+abbrev desk-at : tie.After-marked-session → Desk
+desk-at c = c .before .before .before .before .before .before .before .before .before .before .before .args .t2
 
-abbrev rec-at : tie.After-shown-at → ℕ
-rec-at c = c .before .before .before .before .before .before .before .before .before .before .before .before .before .before .args .rec
-
-abbrev start-at : tie.After-shown-at → ℕ
-start-at c = startOf (sessionAt (desk-at c) (c .before .before .before .before .before .before .before .before .before .before .before .before .before .before .args .session) .phase)
-
--- whether it is shown, as the definition says it
-shown : (c : tie.After-shown-at) → (not (eqb (markAt (desk-at c) (rec-at c)) 0) && c .shown-at .result) ≡ copyShown (desk-at c) (start-at c) (rec-at c)
-shown c =
-    shown-by (desk-at c) (rec-at c) (start-at c) (c .before .start-of .result) (c .before .before .before .marked-session .result) (c .shown-at .result) (c .shown-at .ensures) (c .before .start-of .ensures) (c .before .before .before .marked-session .ensures)
-
--- a copy that is shown is in one of the holder's four places
-found : (c : tie.After-own-place2) → c .own-place2 .result < 4
-found c =
-    let f = facts (c .before .before .before .before .before .before .before .before .before .before .before .before) in
-    let marked = says-and (says-ne (markAt (desk-at (c .before .before)) (rec-at (c .before .before))) 0) (says-itself (c .before .before .shown-at .result)) .yes (c .before .if4 .taken) .0 in
-    place-found (desk-at (c .before .before)) (rec-at (c .before .before)) (c .before .before .before .before .before .marked-session .result) (c .own-place2 .result) (f .session .coherent) (f .small) marked
-    (c .own-place2 .ensures) (c .before .before .before .before .before .marked-session .ensures)
+abbrev rec-at : tie.After-marked-session → ℕ
+rec-at c = c .before .before .before .before .before .before .before .before .before .before .before .args .rec
 
 coherent-requires : tie.Need-coherent-requires
 coherent-requires c κs = search needs
@@ -112,40 +91,25 @@ element-copy-out-holder c = holder c
 start-of-requires : tie.Need-start-of-requires
 start-of-requires c κs = search needs
 
-shown-at-requires : tie.Need-shown-at-requires
-shown-at-requires c κs = search needs
-
-own-place-requires-2 : tie.Need-own-place-requires-2
-own-place-requires-2 c κs = search needs
-
-mul-copy-2 : tie.Need-mul-copy-2
-mul-copy-2 c = let l : c .own-place2 .result < 4 = found c in omega arith
-
-element-copy-out-copy-2 : tie.Need-element-copy-out-copy-2
-element-copy-out-copy-2 c = found c
+seen-requires : tie.Need-seen-requires
+seen-requires c κs =
+    let m = c .before .before in
+    let f = facts (m .before .before .before .before .before .before .before) in
+    (f .small, holder-found (desk-at m) (f .session .coherent) (rec-at m) (f .small) _ (m .marked-session .ensures))
 
 gives-requires-4 : tie.Need-gives-requires-4
 gives-requires-4 c κs = search needs
 
 returns-4 : tie.Need-returns-4
 returns-4 c =
+    let s = c .before .before in
+    let m = s .before .before .before in
+    let o = m .before .before .before in
+    let a = o .before .before in
     read-tells _ _ _ _
     (c .gives4 .ensures
-    ∙ words-by (desk-at (c .before .before .before .before .before)) (rec-at (c .before .before .before .before .before)) ((c .before .before .before .before .before .before .before .before) .marked-session .result) ((c .before .before .before) .own-place2 .result) ((c .before .before .before) .own-place2 .ensures) ((c .before .before .before .before .before .before .before .before) .marked-session .ensures)
-    ∙ sym (read-copy _ _ _ _ (passed (c .before .before .before .before .before .before .before .before .before .before .before .before .before .before .before)) (sym ((c .before .before .before .before .before .before .before .before .before .before .before .before .before) .is-active .ensures) ∙ not-false _ ((c .before .before .before .before .before .before .before .before .before .before .before .before) .if2 .left)) (rw ((c .before .before .before .before .before .before .before .before .before .before .before) .own-place .ensures) at ((c .before .before .before .before .before .before .before .before .before .before) .if3 .left)) (sym (shown (c .before .before .before .before .before)) ∙ (c .before .before .before .before) .if4 .taken)))
-
-home-words-requires : tie.Need-home-words-requires
-home-words-requires c κs = omega (arith, facts (c .before .before .before .before .before .before .before .before .before .before .before) .small)
-
-gives-requires-5 : tie.Need-gives-requires-5
-gives-requires-5 c κs = search needs
-
-returns-5 : tie.Need-returns-5
-returns-5 c =
-    read-tells _ _ _ _
-    (c .gives5 .ensures
-    ∙ rw ((c .before) .home-words .ensures)
-    (sym (read-home _ _ _ _ (passed (c .before .before .before .before .before .before .before .before .before .before .before .before .before)) (sym ((c .before .before .before .before .before .before .before .before .before .before .before) .is-active .ensures) ∙ not-false _ ((c .before .before .before .before .before .before .before .before .before .before) .if2 .left)) (rw ((c .before .before .before .before .before .before .before .before .before) .own-place .ensures) at ((c .before .before .before .before .before .before .before .before) .if3 .left)) (sym (shown (c .before .before .before)) ∙ (c .before .before) .if4 .left))))
+    ∙ sym (read-seen _ _ _ _ (passed (a .before .before)) (sym (a .is-active .ensures) ∙ not-false _ (o .before .if2 .left)) (rw (o .own-place .ensures) at (m .before .before .if3 .left)) _
+    (sight-by _ (desk-at m) (rec-at m) _ _ _ _ (s .seen .ensures) (s .before .start-of .ensures) (m .marked-session .ensures))))
 
 pub read-spec : {M : Type 1} → statement M
 read-spec =
@@ -170,12 +134,6 @@ read-spec =
     mul-holder
     element-copy-out-holder
     start-of-requires
-    shown-at-requires
-    own-place-requires-2
-    mul-copy-2
-    element-copy-out-copy-2
+    seen-requires
     gives-requires-4
-    returns-4
-    home-words-requires
-    gives-requires-5
-    returns-5)
+    returns-4)

@@ -1,6 +1,6 @@
 use borrow.Author.Needs.{needs}
-use Rattle.snapshot.proofs.reading.shown_at.Statement.{statement}
-use Rattle.snapshot.proofs.reading.shown_at.Tie as tie
+use Rattle.snapshot.proofs.seeing.shown_at.Statement.{statement}
+use Rattle.snapshot.proofs.seeing.shown_at.Tie as tie
 
 enum-told : tie.Need-enum-told
 enum-told c = search needs

@@ -1,0 +1,27 @@
+// The checks of a session of the listening room.
+ghost use mathlib.Core.Path.{_≡_};
+ghost use Rattle.listening.specs.Listener.{listenerFault};
+use desk::Desk;
+use desk::coherent;
+use desk::entry_fault;
+use desk::is_active;
+
+// Refusal 1, 2, 3, 4, 6 or 18, or 0 where there is none.
+pub fn listener_fault(image: &[u64], desk: Desk, room: bool, session: u64) -> u64
+    ensures { λ r. ⌜ r ≡ listenerFault (now (image .entry)) desk room session ⌝ }
+{
+    let sound = coherent(desk);
+    let n = desk.n;
+    let m = desk.m;
+    let fault = entry_fault(image, sound, n, m, room, session);
+    if fault != 0 {
+        return fault;
+    }
+    let i = session as usize;
+    let e = desk.sessions[i];
+    let p = e.phase;
+    if !is_active(p) {
+        return 6;
+    }
+    if e.count == 0 { 0 } else { 18 }
+}
