@@ -11,7 +11,7 @@ use Rattle.desk.specs.Desk.{unmarked}
 use Rattle.desk.specs.Coherent.{freshB, placesOk, sessionOk, copiesB, coherentB}
 use Rattle.desk.specs.Entering.{entryFault}
 use Rattle.recovery.specs.Open.{openFault, openReply}
-use Rattle.snapshot.specs.Read.{readFault, readReply}
+use Rattle.snapshot.specs.Read.{readFault, sightOf, readReply}
 use Rattle.snapshot.specs.Write.{copyFault, writeFault, writeRefused, writeReply}
 use Rattle.commit.specs.Finish.{finishFault, finishEntries, finishReply}
 use Rattle.commit.specs.Reclaim.{reclaimFault, reclaimReply}
@@ -19,7 +19,7 @@ use Rattle.recovery.specs.Recover.{unsoundPlace, tiedBelow, tiesB, recoverFault
 use Rattle.claims.specs.Edges.{Edges}
 
 pub edges : Edges
-unfolding allBelow anyBelow countBelow lowest first answered shapedB occupiedB layFault layAnswer homesWrites bodyWrites unsoundB sharedB oldestOf unmarked freshB placesOk sessionOk copiesB coherentB entryFault openFault openReply readFault readReply copyFault writeFault writeRefused writeReply finishFault finishEntries finishReply reclaimFault reclaimReply unsoundPlace tiedBelow tiesB recoverFault firstLog recoverRefused recoverReply
+unfolding allBelow anyBelow countBelow lowest first answered shapedB occupiedB layFault layAnswer homesWrites bodyWrites unsoundB sharedB oldestOf unmarked freshB placesOk sessionOk copiesB coherentB entryFault openFault openReply readFault sightOf readReply copyFault writeFault writeRefused writeReply finishFault finishEntries finishReply reclaimFault reclaimReply unsoundPlace tiedBelow tiesB recoverFault firstLog recoverRefused recoverReply
 edges =
     record {
       a-lay = refl;

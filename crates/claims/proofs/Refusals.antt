@@ -25,13 +25,13 @@ use Rattle.desk.specs.declared.begin.BeginReply.{BeginReply}
 use Rattle.desk.specs.declared.abandon.AbandonReply.{AbandonReply}
 use Rattle.desk.specs.declared.publish.PublishReply.{PublishReply}
 use Rattle.desk.specs.declared.state.Desk.{Desk}
-use Rattle.snapshot.specs.Own.{ownPlace}
-use Rattle.snapshot.specs.Read.{copyShown, startOf, readFault, readRefused, readDone, readReply}
+use Rattle.snapshot.specs.Read.{readFault, readRefused, readDone, readReply}
 use Rattle.snapshot.specs.Write.{writeSays, writeRefused, writeDone, writeReply}
 use Rattle.snapshot.specs.Told.{readTold, writeTold}
 use Rattle.snapshot.specs.declared.reading.ReadReply.{ReadReply}
 use Rattle.snapshot.specs.declared.writing.WriteReply.{WriteReply}
 use Rattle.snapshot.specs.declared.writing.WriteAnswer.the-variants.{Refused as WriteRefused}
+use Rattle.snapshot.proofs.ToldLaws.{read-done}
 use Rattle.commit.specs.Finish.{finishRefused, finishDone, finishReply}
 use Rattle.commit.specs.Settle.{settleRefused, settleDone, waitsB, settleReply}
 use Rattle.commit.specs.Reclaim.{reclaimRefused, reclaimDone, noneLeft, heldB, reclaimReply}
@@ -131,9 +131,7 @@ no-stores = record { none = refl; entries = refl; image = λ img. refl; trace = 
 
 -- past its checks a read refuses nothing
 read-takes : (img : List ℕ) (d : Desk) (s r : ℕ) → isRefusal (readTold (readDone img d s r .answer) (readDone img d s r .words)) ≡ false
-read-takes img d s r =
-    either (λ (x : ReadReply). readTold (x .answer) (x .words)) (ltb (ownPlace (sessionAt d s) r) 4) _ _ refl
-    (either (λ (x : ReadReply). readTold (x .answer) (x .words)) (copyShown d (startOf (sessionAt d s .phase)) r) _ _ refl refl)
+read-takes img d s r = ap isRefusal (read-done img d s r .tells) ∙ read-done img d s r .takes
 
 listening-turned : (img : List ℕ) (d : Desk) (c : Listening) → CallTurned img d (listen c) (listeningCall img d c .told) (listeningCall img d c .desk)
 unfolding beginReply beginFault listenReadReply listenFinishReply findReply

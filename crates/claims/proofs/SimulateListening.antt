@@ -12,7 +12,7 @@ use borrow.Author.Tests.{leb-false, eq-eqb, ne-eqb, lt-ltb, le-ltb, ltb-true}
 use Rattle.layout.specs.Below.{lowest}
 use Rattle.layout.specs.Checks.{unless, first, answered, roomFor}
 use Rattle.layout.specs.Entries.{Entry}
-use Rattle.layout.specs.Told.{Told, refusal, own, copied, home, isRefusal, wordsTold}
+use Rattle.layout.specs.Told.{Told, refusal, isRefusal, wordsTold}
 use Rattle.layout.proofs.Says.{by-test}
 use Rattle.desk.specs.Desk.{sessionAt, isActive, idleSession}
 use Rattle.desk.specs.Entering.{imageFault}
@@ -22,11 +22,10 @@ use Rattle.desk.specs.declared.state.Phase.{Phase}
 use Rattle.desk.specs.declared.state.Phase.the-variants.{Idle, Active, Sealed, Published}
 use Rattle.desk.specs.declared.state.Session.{Session}
 use Rattle.desk.specs.declared.state.Desk.{Desk}
-use Rattle.snapshot.specs.Own.{ownPlace}
-use Rattle.snapshot.specs.Read.{startOf, copyShown, readGives, readFault, readRefused, readDone, doneSaid}
+use Rattle.snapshot.specs.Read.{readFault, readRefused, readDone}
 use Rattle.snapshot.specs.Told.{readTold}
 use Rattle.snapshot.specs.declared.reading.ReadReply.{ReadReply}
-use Rattle.snapshot.specs.declared.reading.ReadAnswer.the-variants.{Own, Copy, Home}
+use Rattle.snapshot.proofs.ToldLaws.{read-done}
 use Rattle.commit.specs.Finish.{finishRefused, finishDone}
 use Rattle.commit.specs.Told.{finishTold}
 use Rattle.commit.specs.declared.finishing.FinishReply.{FinishReply}
@@ -71,19 +70,7 @@ first-lowest p (suc n) =
     (λ b. rw (e, b, lt-ltb n (suc n) (omega arith)) refl)
     (λ b. rw (e, b, le-ltb (suc n) (suc n) (omega arith)) refl)))
 
--- ---- what a read tells past its checks
-
-module _ (img : List ℕ) (d : Desk) (s r : ℕ) where
-  done-is : (readTold (readDone img d s r .answer) (readDone img d s r .words) ≡ doneSaid img d s r) × (wordsTold (doneSaid img d s r) ≡ readDone img d s r .words)
-  done-is = go (ltb (ownPlace (sessionAt d s) r) 4) (copyShown d (startOf (sessionAt d s .phase)) r) _ _ _
-    where
-      go : (a b : Bool) (us vs ws : List ℕ)
-          → let x = cond a (readGives d Own us) (cond b (readGives d Copy vs) (readGives d Home ws)) in
-          let t = cond a (own us) (cond b (copied vs) (home ws)) in
-          (readTold (x .answer) (x .words) ≡ t) × (wordsTold t ≡ x .words)
-      go true b us vs ws = (refl, refl)
-      go false true us vs ws = (refl, refl)
-      go false false us vs ws = (refl, refl)
+-- ---- parts
 
 -- a list of entries that is empty in any case
 unlisted : (k : ℕ) → answered {A = List Entry} k (λ j. []) [] ≡ []
@@ -200,12 +187,12 @@ module _ (N M : ℕ) (img : List ℕ) (d : Desk) (f : ℕ → ℕ) (hist : Histo
       module _ (l : s < M) (b : ℕ) (i : e .phase ≡ Active b) (z : copiesOf e ≡ []) where
         -- each record gives what is due of a read
         look-due : (r : ℕ) → r < N → lookGives img d s r ≡ readsOther (shownBy b (abs d) (holder M (abs d) r)) (viewAt hist b r) .answer
-        look-due r lr = sym (done-is img d s r .0) ∙ heard l b i z r lr .answers
+        look-due r lr = sym (read-done img d s r .tells) ∙ heard l b i z r lr .answers
 
         match-due : (r : ℕ) → r < N → matches img d s k r ≡ shelvedAt hist b k r
         match-due r lr =
             ap (λ w. eqb w k)
-            (ap (λ (ws : List ℕ). getD ws 0 0) (sym (done-is img d s r .1))
+            (ap (λ (ws : List ℕ). getD ws 0 0) (sym (read-done img d s r .words))
             ∙ ap (λ (t : Told). getD (wordsTold t) 0 0) (look-due r lr)
             ∙ other-word (shownBy b (abs d) (holder M (abs d) r)) (viewAt hist b r))
 

@@ -1,6 +1,6 @@
 -- Read gives what is due: the words that it finds are the history's.
 use Prim.Native.Nat.{ℕ, zero, suc, _-_, _<_}
-use mathlib.Core.Path.{_≡_, refl, sym, _∙_}
+use mathlib.Core.Path.{_≡_, refl, sym, _∙_, subst}
 use mathlib.Core.Bool.{Bool, true, false, cond, not, _&&_}
 use mathlib.Core.List.{List, []}
 use native.Mathlib.Omega.{arith}
@@ -16,10 +16,11 @@ use Rattle.desk.specs.declared.state.Session.{Session}
 use Rattle.desk.specs.declared.state.Desk.{Desk}
 use Rattle.desk.proofs.Facts.{Copies}
 use Rattle.snapshot.specs.Own.{ownPlace}
-use Rattle.snapshot.specs.Read.{readFault, shownAt, holderEntry, readGives, readRefused, readDone, readReply}
+use Rattle.snapshot.specs.Read.{readFault, startOf, shownAt, holderEntry, readGives, readRefused, readDone, readReply}
 use Rattle.snapshot.specs.declared.reading.ReadReply.{ReadReply}
 use Rattle.snapshot.specs.declared.reading.ReadAnswer.the-variants.{Copy, Home}
 use Rattle.snapshot.proofs.OwnPlace.{own-found}
+use Rattle.snapshot.proofs.ReadLaws.{seen-done, sight-read}
 use Rattle.layout.specs.Told.{Told, refusal, own}
 use Rattle.snapshot.specs.Told.{readTold}
 use Rattle.history.specs.Call.{read}
@@ -85,13 +86,16 @@ module _ (N M : ℕ) (img : List ℕ) (d : Desk) (s r : ℕ) (f : ℕ → ℕ) (
       → ReadSim (readDone img d s r) (readsOwn (find r (copiesOf e)) (readsOther (shownBy b (abs d) (holder M (abs d) r)) (viewAt k b r)))
   reads-active l lr b i =
       let four = h .copies-long s (session-small N M img d h s l) in
+      let other = readsOther (shownBy b (abs d) (holder M (abs d) r)) (viewAt k b r) in
       by-test (ltb (ownPlace e r) 4)
       (λ y. rw (y, find-own e r four (ltb-true (ownPlace e r) 4 y)) (told (read s r) f d (own _) refl))
       (λ n.
-      rw (n, find-fresh r (copiesOf e) (own-none e r four (ltb-false (ownPlace e r) 4 n)), i)
+      let none = ltb-false (ownPlace e r) 4 n in
+      subst (λ (x : ReadReply). ReadSim x (readsOwn (find r (copiesOf e)) other)) (sym (seen-done img d s r none ∙ sight-read img d (startOf (e .phase)) r))
+      (rw (find-fresh r (copiesOf e) (own-none e r four none), i)
       (stays (not (eqb (markAt d r) 0) && shownAt b (holderEntry d r .phase)) (holderEntry d r) _
       (by-mark lr b (markAt d r) refl ∙ (rw (← (holder-named N M img d h r lr)) (read-due N M img (abs d) k H b r s (e .slot) (copiesOf e) l lr (rw i refl))))
-      (quiet (shownBy b (abs d) (holder M (abs d) r)) (viewAt k b r))))
+      (quiet (shownBy b (abs d) (holder M (abs d) r)) (viewAt k b r)))))
     where
       quiet : (x : Bool) (ws : List ℕ) → readsOther x ws .entries ≡ []
       quiet true ws = refl

@@ -23,10 +23,10 @@ use Rattle.desk.proofs.Copied.{copies-four}
 use Rattle.desk.proofs.DeskEntered.{desk-entered}
 use Rattle.desk.specs.Entering.{deskFault, imageFault}
 use Rattle.layout.specs.Checks.{roomFor}
-use Rattle.snapshot.specs.Own.{ownPlace}
 use Rattle.recovery.specs.Open.{freshDesk}
-use Rattle.snapshot.specs.Read.{startOf, copyShown, readFault, readRefused, readDone, readReply}
+use Rattle.snapshot.specs.Read.{readFault, readRefused, readDone, readReply}
 use Rattle.snapshot.specs.Write.{ownsB, writeFault, writeRefused, writeDone, writeReply}
+use Rattle.snapshot.proofs.ToldLaws.{read-done}
 use Rattle.commit.specs.Finish.{finishFault, finishRefused, finishDone, finishReply}
 use Rattle.commit.specs.Settle.{settleFault, settleRefused, settleDone, waitsB, settleReply}
 use Rattle.commit.specs.Reclaim.{reclaimFault, reclaimRefused, reclaimDone, noneLeft, heldB, reclaimReply}
@@ -167,8 +167,7 @@ listen-finish-kept img d len s h =
 
 -- read, with whatever checks, leaves the desk as it is
 done-desk : (img : List ℕ) (d : Desk) (s r k : ℕ) → answered k (readRefused d) (readDone img d s r) .desk ≡ d
-done-desk img d s r k = by-answer (λ a. a .desk ≡ d) k (readRefused d) (readDone img d s r) refl
-    (λ z. by-test (ltb (ownPlace (sessionAt d s) r) 4) (λ y. rw y) (λ y. by-test (copyShown d (startOf (sessionAt d s .phase)) r) (λ w. rw (y, w)) (λ w. rw (y, w))))
+done-desk img d s r k = by-answer (λ a. a .desk ≡ d) k (readRefused d) (readDone img d s r) refl (λ z. read-done img d s r .leaves)
 
 pub read-desk : (img : List ℕ) (d : Desk) (s r : ℕ) → readReply img d s r .desk ≡ d
 unfolding readReply

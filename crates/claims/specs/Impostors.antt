@@ -20,7 +20,6 @@ use Rattle.commit.specs.Settle.{startsFor}
 use Rattle.commit.specs.Reclaim.{chosen, clearEntries}
 use Rattle.recovery.specs.Recover.{slotsOf, cleanB, firstLog, replayEntries}
 use Rattle.history.specs.Call.{Listening, Begin, Read, Finish, Find, Call, begin, read, write, abandon, finish, publish, settle, reclaim, listen}
-use Rattle.history.specs.Looks.{Looks}
 use Rattle.claims.specs.Rules.{Reply, Recovery, Rules, tells, searching, storeRules}
 use Rattle.claims.specs.Demands.{Demand2, Demand3}
 

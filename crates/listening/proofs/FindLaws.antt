@@ -1,6 +1,6 @@
 -- Find, case by case.
-use Prim.Native.Nat.{ℕ, zero, suc, _≤_}
-use mathlib.Core.Bool.{Bool, true, false, cond, _&&_}
+use Prim.Native.Nat.{ℕ, zero, suc}
+use mathlib.Core.Bool.{true, false, _&&_}
 use mathlib.Core.Path.{_≡_, refl, sym, ap, _∙_, fun-ext}
 use mathlib.Core.List.{List}
 use native.Mathlib.Omega.{arith}
@@ -8,19 +8,19 @@ use lib.Dec.{eqb, ltb}
 use lib.ListN.{getD}
 use borrow.Author.Tests.{eqb-true}
 use Rattle.layout.specs.Below.{lowest}
-use Rattle.layout.specs.Checks.{unless, first, answered}
+use Rattle.layout.specs.Checks.{first, answered}
 use Rattle.layout.specs.Told.{Told}
 use Rattle.layout.proofs.ChecksLaws.{answered-zero, answered-not, answered-map, cond-map}
 use Rattle.desk.specs.Desk.{sessionAt, copyAt}
 use Rattle.desk.specs.declared.state.Desk.{Desk}
 use Rattle.desk.specs.declared.state.Session.{Session}
 use Rattle.snapshot.specs.Own.{ownPlace}
-use Rattle.snapshot.specs.Read.{startOf, sightAt, readDone}
+use Rattle.snapshot.specs.Read.{startOf}
 use Rattle.snapshot.specs.declared.reading.ReadReply.{ReadReply}
 use Rattle.snapshot.proofs.ReadLaws.{seen-done}
 use Rattle.reels.specs.Reel.{shelfB}
 use Rattle.listening.specs.Listener.{noCopies, listenerFault}
-use Rattle.listening.specs.Find.{findFault, matches, seenMatches, firstMatch, findGives, findRefused, findDone, findReply, findSaid}
+use Rattle.listening.specs.Find.{findFault, seenMatches, firstMatch, findGives, findRefused, findDone, findReply, findSaid}
 use Rattle.listening.specs.Told.{findTold}
 use Rattle.listening.specs.declared.finding.FindAnswer.the-variants.{Refused, Found, None}
 use Rattle.listening.specs.declared.finding.FindReply.{FindReply}

@@ -1,14 +1,15 @@
 -- Finish in the listening room, by what the store's finish gives.
 use Prim.Native.Nat.{ℕ, zero, suc}
-use mathlib.Core.Bool.{Bool, true, false, cond, _||_}
+use mathlib.Core.Bool.{Bool, true, false, cond, not, _||_, false≢true}
 use mathlib.Core.Path.{_≡_, refl, sym, ap, _∙_}
 use mathlib.Core.List.{List, []}
-use lib.Dec.{eqb, ltb}
-use lib.ListN.{length}
+use lib.Dec.{ltb}
+use borrow.Author.Tests.{lt-ltb, not-true, not-false}
 use Rattle.layout.specs.Checks.{unless, first, answered, roomFor}
-use Rattle.layout.specs.Entries.{made, listed}
 use Rattle.layout.specs.Told.{Told, refusal, empty}
-use Rattle.layout.proofs.ChecksLaws.{first-both, unless-zero, answered-zero, answered-not, answered-map, answered-done}
+use Rattle.layout.proofs.ChecksLaws.{first-both, unless-zero, answered-zero, answered-not}
+use Rattle.layout.proofs.Says.{says-and, says-lt, says-itself}
+use Rattle.desk.specs.Coherent.{limit}
 use Rattle.desk.specs.Desk.{sessionAt, isActive}
 use Rattle.desk.specs.Entering.{imageFault}
 use Rattle.desk.specs.declared.state.Desk.{Desk}
@@ -16,7 +17,7 @@ use Rattle.desk.proofs.Entered.{Entered, entered}
 use Rattle.commit.specs.Finish.{finishFault, finishEntries, sealEntries, finishRefused, finishDone, finishReply}
 use Rattle.commit.specs.Told.{finishTold}
 use Rattle.commit.specs.declared.finishing.FinishReply.{FinishReply}
-use Rattle.listening.specs.Listener.{noCopies, listenerFault}
+use Rattle.listening.specs.Listener.{noCopies, holdsCopies, listenerFault}
 use Rattle.listening.specs.Finish.{listenFinishReply, listenFinishSaid}
 
 -- what holds once the checks of the listening room have passed
@@ -55,24 +56,40 @@ module _ (img : List ℕ) (d : Desk) (len s : ℕ) where
   pub listen-finish-tells : {x : FinishReply} → x ≡ listenFinishReply img d len s → finishes x ≡ listenFinishSaid img d len s
   listen-finish-tells e = rw e told
 
-  -- the store's checks pass, and nothing is stored
-  module _ (z : listenerFault img d (roomFor len) s ≡ 0) where
-    passed : finishFault img d len s ≡ 0
-    unfolding finishFault first
-    passed = let h = listener img d (roomFor len) s z in rw (h .entry, h .active, h .bare)
+  -- the store's checks pass, and it gives what it does past them
+  pub finish-done : listenerFault img d (roomFor len) s ≡ 0 → finishReply img d len s ≡ finishDone d s
+  unfolding finishReply finishFault first
+  finish-done z = let h = listener img d (roomFor len) s z in rw (h .entry, h .active, h .bare) (answered-zero 0 (finishRefused d) _ refl)
 
-    pub nothing-stored : finishEntries img d len s ≡ []
-    unfolding finishEntries
-    nothing-stored = answered-zero _ (λ k. []) _ passed ∙ rw (listener img d (roomFor len) s z .bare)
+  -- a session that holds no copies: the store's checks are the listening room's
+  module _ (n : holdsCopies d s ≡ false) where
+    bare-entered : imageFault img d (roomFor len) s ≡ 0 → noCopies d s ≡ true
+    bare-entered z = not-false _ (rw (lt-ltb s 16 (entered img d (roomFor len) s z .small)) at n)
 
-    -- it gives what it does past its checks
-    pub finish-done : finishReply img d len s ≡ finishDone d s
-    unfolding finishReply
-    finish-done = answered-zero _ (finishRefused d) _ passed
+    same-fault : finishFault img d len s ≡ listenerFault img d (roomFor len) s
+    unfolding finishFault listenerFault first
+    same-fault = go (imageFault img d (roomFor len) s) refl
+      where
+        rest : ℕ → ℕ
+        rest k = first k (first (unless (isActive (sessionAt d s .phase)) 6) (unless (noCopies d s || ltb (d .clock) limit) 10))
+
+        go : (k : ℕ) → imageFault img d (roomFor len) s ≡ k
+            → rest k ≡ first k (first (unless (isActive (sessionAt d s .phase)) 6) (unless (noCopies d s) 18))
+        go zero e = rw (bare-entered e) refl
+        go (suc k) e = refl
 
     pub finish-left : finishReply img d len s ≡ listenFinishReply img d len s
-    unfolding listenFinishReply
-    finish-left = finish-done ∙ sym (answered-zero _ (finishRefused d) _ z)
+    unfolding finishReply listenFinishReply
+    finish-left = ap (λ k. answered k (finishRefused d) (finishDone d s)) same-fault
+
+    -- and nothing is stored
+    pub nothing-stored : finishEntries img d len s ≡ []
+    unfolding finishEntries answered
+    nothing-stored = go (finishFault img d len s) (same-fault)
+      where
+        go : (k : ℕ) → k ≡ listenerFault img d (roomFor len) s → answered k (λ j. []) (cond (noCopies d s) [] (sealEntries d s)) ≡ []
+        go zero e = rw (listener img d (roomFor len) s (sym e) .bare) refl
+        go (suc k) e = refl
 
   -- it lists no entries
   pub no-entries : listenFinishReply img d len s .entries ≡ 0
@@ -83,7 +100,12 @@ module _ (img : List ℕ) (d : Desk) (len s : ℕ) where
       go zero e = rw (listener img d (roomFor len) s e .bare) refl
       go (suc k) e = refl
 
-  -- refused
-  pub finish-turned : (k : ℕ) → k ≡ listenerFault img d (roomFor len) s → (k ≡ 0 → ⊥) → finishRefused d k ≡ listenFinishReply img d len s
+  -- one that holds copies is refused
+  pub finish-turned : holdsCopies d s ≡ true → (k : ℕ) → k ≡ listenerFault img d (roomFor len) s → finishRefused d k ≡ listenFinishReply img d len s
   unfolding listenFinishReply
-  finish-turned k e n = ap (finishRefused d) e ∙ sym (answered-not _ (finishRefused d) _ (λ z. n (e ∙ z)))
+  finish-turned n k e = ap (finishRefused d) e ∙ sym (answered-not _ (finishRefused d) _ held)
+    where
+      held : listenerFault img d (roomFor len) s ≡ 0 → ⊥
+      held z =
+          let y = says-and (says-lt s 16) (says-itself (not (noCopies d s))) .yes n in
+          false≢true (sym (not-true _ (y .1)) ∙ listener img d (roomFor len) s z .bare)

@@ -1,23 +1,23 @@
 -- Read in the listening room, by what the store's read gives.
 use Prim.Native.Nat.{ℕ, zero, suc, _<_}
-use mathlib.Core.Bool.{Bool, true, false, cond, false≢true}
+use mathlib.Core.Bool.{true, false, false≢true}
 use mathlib.Core.Path.{_≡_, refl, sym, ap, _∙_}
 use mathlib.Core.List.{List}
 use native.Mathlib.Omega.{arith}
-use lib.Dec.{ltb}
 use borrow.Author.Tests.{ne-eqb}
-use Rattle.layout.specs.Checks.{unless, first, answered}
-use Rattle.layout.specs.Told.{Told, refusal}
-use Rattle.layout.proofs.ChecksLaws.{answered-refused, answered-next, answered-done, answered-zero, answered-not, first-both, answered-map, cond-map}
+use Rattle.layout.specs.Checks.{answered}
+use Rattle.layout.specs.Told.{Told, isRefusal}
+use Rattle.layout.proofs.ChecksLaws.{answered-refused, answered-next, answered-done, answered-zero, answered-not, first-both, answered-map}
 use Rattle.desk.specs.Desk.{sessionAt}
 use Rattle.desk.specs.Entering.{imageFault}
 use Rattle.desk.specs.declared.state.Desk.{Desk}
 use Rattle.desk.proofs.Entered.{entered}
-use Rattle.snapshot.specs.Own.{ownPlace}
-use Rattle.snapshot.specs.Read.{startOf, copyShown, readGives, readFault, readRefused, readDone, readReply}
+use Rattle.snapshot.specs.Read.{readFault, readRefused, readDone, readReply}
 use Rattle.snapshot.specs.Told.{readTold}
-use Rattle.snapshot.specs.declared.reading.ReadAnswer.the-variants.{Own, Copy, Home}
+use Rattle.snapshot.specs.declared.reading.ReadAnswer.{ReadAnswer}
+use Rattle.snapshot.specs.declared.reading.ReadAnswer.the-variants.{Refused, Own, Copy, Home}
 use Rattle.snapshot.specs.declared.reading.ReadReply.{ReadReply}
+use Rattle.snapshot.proofs.ToldLaws.{read-done}
 use Rattle.listening.specs.Listener.{noCopies}
 use Rattle.listening.specs.Read.{refusedB, listenReadFault, listenReadReply, listenReadSaid}
 
@@ -25,15 +25,17 @@ use Rattle.listening.specs.Read.{refusedB, listenReadFault, listenReadRe
 abbrev reads : ReadReply → Told
 reads x = readTold (x .answer) (x .words)
 
+refused-told : (a : ReadAnswer) (ws : List ℕ) → refusedB a ≡ isRefusal (readTold a ws)
+refused-told (Refused k) ws = refl
+refused-told Own ws = refl
+refused-told Copy ws = refl
+refused-told Home ws = refl
+
 module _ (img : List ℕ) (d : Desk) (s r : ℕ) where
   -- past its checks read refuses nothing
   done-taken : refusedB (readDone img d s r .answer) ≡ false
-  done-taken = go (ltb (ownPlace (sessionAt d s) r) 4) (copyShown d (startOf (sessionAt d s .phase)) r) _ _ _
-    where
-      go : (a b : Bool) (us vs ws : List ℕ) → refusedB (cond a (readGives d Own us) (cond b (readGives d Copy vs) (readGives d Home ws)) .answer) ≡ false
-      go true b us vs ws = refl
-      go false true us vs ws = refl
-      go false false us vs ws = refl
+  done-taken =
+      refused-told (readDone img d s r .answer) (readDone img d s r .words) ∙ ap isRefusal (read-done img d s r .tells) ∙ read-done img d s r .takes
 
   -- so that it refuses just where one of its checks does
   taken-passed : refusedB (readReply img d s r .answer) ≡ false → readFault img d s r ≡ 0
@@ -52,7 +54,7 @@ module _ (img : List ℕ) (d : Desk) (s r : ℕ) where
   -- what a reply tells is what it is to tell
   listen-read-told : reads (listenReadReply img d s r) ≡ listenReadSaid img d s r
   unfolding listenReadReply listenReadSaid
-  listen-read-told = answered-map reads _ (readRefused d) (readDone img d s r) (λ k. refl) (simp (cond-map reads))
+  listen-read-told = answered-map reads _ (readRefused d) (readDone img d s r) (λ k. refl) (read-done img d s r .tells)
 
   pub listen-read-tells : {x : ReadReply} → x ≡ listenReadReply img d s r → (x ≡ listenReadReply img d s r) × (reads x ≡ listenReadSaid img d s r)
   listen-read-tells e = (e, rw e listen-read-told)

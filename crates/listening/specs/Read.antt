@@ -5,7 +5,7 @@ use mathlib.Core.List.{List}
 use Rattle.layout.specs.Checks.{unless, first, answered}
 use Rattle.layout.specs.Told.{Told, refusal}
 use Rattle.desk.specs.declared.state.Desk.{Desk}
-use Rattle.snapshot.specs.Read.{readFault, readRefused, readDone, readReply, doneSaid}
+use Rattle.snapshot.specs.Read.{readFault, readRefused, readDone, doneSaid}
 use Rattle.snapshot.specs.declared.reading.ReadAnswer.{ReadAnswer}
 use Rattle.snapshot.specs.declared.reading.ReadAnswer.the-variants.{Refused, Own, Copy, Home}
 use Rattle.snapshot.specs.declared.reading.ReadReply.{ReadReply}

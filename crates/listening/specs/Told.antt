@@ -1,5 +1,4 @@
 -- What each answer of find tells.
-use Prim.Native.Nat.{ℕ}
 use Rattle.layout.specs.Told.{Told, refusal, nothing, foundAt}
 use Rattle.listening.specs.declared.finding.FindAnswer.{FindAnswer}
 use Rattle.listening.specs.declared.finding.FindAnswer.the-variants.{Refused, Found, None}

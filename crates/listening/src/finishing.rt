@@ -3,6 +3,7 @@ ghost use mathlib.Core.Path.{_≡_};
 ghost use lib.ListN.{length};
 ghost use Rattle.commit.specs.Told.{finishTold};
 ghost use Rattle.listening.specs.Finish.{listenFinishReply, listenFinishSaid};
+use crate::listener::holds_copies;
 use crate::listener::listener_fault;
 use store::Desk;
 use store::FinishAnswer;
@@ -15,8 +16,8 @@ pub fn finish(image: &mut [u64], desk: Desk, trace: &mut [u64], session: u64) ->
     ensures trace { λ r. ⌜ now (trace .exit) ≡ now (trace .entry) ⌝ }
     ensures told { λ r. ⌜ finishTold (r .answer) ≡ listenFinishSaid (now (image .entry)) desk (length (now (trace .entry))) session ⌝ }
 {
-    let fault = listener_fault(image, desk, 48 <= trace.len(), session);
-    if fault != 0 {
+    if holds_copies(desk, session) {
+        let fault = listener_fault(image, desk, 48 <= trace.len(), session);
         return FinishReply {
             answer: FinishAnswer::Refused(fault),
             entries: 0,

@@ -1,10 +1,22 @@
 // The checks of a session of the listening room.
 ghost use mathlib.Core.Path.{_≡_};
-ghost use Rattle.listening.specs.Listener.{listenerFault};
+ghost use Rattle.listening.specs.Listener.{holdsCopies, listenerFault};
 use desk::Desk;
 use desk::coherent;
 use desk::entry_fault;
 use desk::is_active;
+
+// Whether the session is one of the sixteen and holds copies.
+pub fn holds_copies(desk: Desk, session: u64) -> bool
+    ensures { λ r. ⌜ r ≡ holdsCopies desk session ⌝ }
+{
+    if 16 <= session {
+        return false;
+    }
+    let i = session as usize;
+    let e = desk.sessions[i];
+    e.count != 0
+}
 
 // Refusal 1, 2, 3, 4, 6 or 18, or 0 where there is none.
 pub fn listener_fault(image: &[u64], desk: Desk, room: bool, session: u64) -> u64

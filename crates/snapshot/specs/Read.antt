@@ -44,10 +44,11 @@ holderEntry d r = sessionAt d (markAt d r - 1)
 abbrev pub copyShown : Desk → ℕ → ℕ → Bool
 copyShown d start r = not (eqb (markAt d r) 0) && shownAt start (holderEntry d r .phase)
 
--- what a reader with this start sees of record r, which it does not copy, by the record's mark and holder
+-- copy or home, and the words
 abbrev pub sight : ReadAnswer → List ℕ → Sight
 sight a ws = record { answer = a; words = ws }
 
+-- what a reader with this start sees of record r, which it does not copy: by the record's mark and holder, and by the desk
 unfoldable pub sightOf : List ℕ → ℕ → ℕ → ℕ → Session → Sight
 sightOf img start r mark holder =
     cond (not (eqb mark 0) && shownAt start (holder .phase)) (sight Copy (copyAt holder (ownPlace holder r) .words)) (sight Home (homeWords img r))
@@ -63,11 +64,10 @@ readRefused d k = readGives d (Refused k) zeroWords
 
 abbrev pub readDone : List ℕ → Desk → ℕ → ℕ → ReadReply
 readDone img d s r =
+    let seen = sightAt img d (startOf (sessionAt d s .phase)) r in
     cond (ltb (ownPlace (sessionAt d s) r) 4)
     (readGives d Own (copyAt (sessionAt d s) (ownPlace (sessionAt d s) r) .words))
-    (cond (copyShown d (startOf (sessionAt d s .phase)) r)
-    (readGives d Copy (copyAt (holderEntry d r) (ownPlace (holderEntry d r) r) .words))
-    (readGives d Home (homeWords img r)))
+    (readGives d (seen .answer) (seen .words))
 
 unfoldable pub readReply : List ℕ → Desk → ℕ → ℕ → ReadReply
 readReply img d s r = answered (readFault img d s r) (readRefused d) (readDone img d s r)

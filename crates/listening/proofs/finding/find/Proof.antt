@@ -1,11 +1,9 @@
-use Prim.Native.Nat.{_<_}
-use mathlib.Core.Bool.{true, false}
-use mathlib.Core.Path.{_≡_, sym, ap, _∙_}
+use mathlib.Core.Bool.{true}
+use mathlib.Core.Path.{_≡_, sym, _∙_}
 use native.Mathlib.Omega.{arith}
 use borrow.Author.Tests.{not-true, not-false, lt-ltb, le-ltb}
-use Rattle.layout.specs.Below.{lowest}
 use Rattle.reels.specs.Reel.{shelfB}
-use Rattle.listening.specs.Find.{seenMatches, firstMatch}
+use Rattle.listening.specs.Find.{firstMatch}
 use Rattle.listening.specs.Listener.{listenerFault}
 use Rattle.listening.proofs.FinishLaws.{Listener, listener}
 use Rattle.listening.proofs.FindLaws.{match-seen, find-tells, find-unshelved, find-refused, find-found, find-none}

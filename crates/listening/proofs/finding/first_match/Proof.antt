@@ -1,9 +1,7 @@
 use Prim.Native.Nat.{_≤_, _<_, _-_}
-use mathlib.Core.Bool.{true, false}
 use mathlib.Core.Path.{_≡_, refl, sym, ap, _∙_}
 use native.Mathlib.Omega.{arith}
 use borrow.Author.Tests.{eq-eqb, ne-eqb}
-use lib.Dec.{eqb}
 use lib.ListN.{getD}
 use Rattle.layout.specs.Below.{lowest}
 use Rattle.layout.proofs.BelowLaws.{lowest-more, lowest-finds}

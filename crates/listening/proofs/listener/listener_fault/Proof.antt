@@ -1,9 +1,9 @@
-use mathlib.Core.Bool.{true, false}
+use mathlib.Core.Bool.{true}
 use mathlib.Core.Path.{_≡_, refl, sym, _∙_}
 use native.Mathlib.Omega.{arith}
 use borrow.Author.Tests.{not-true, not-false, eq-eqb, ne-eqb}
 use Rattle.layout.specs.Checks.{first}
-use Rattle.layout.proofs.ChecksLaws.{first-not, first-zero}
+use Rattle.layout.proofs.ChecksLaws.{first-not}
 use Rattle.desk.specs.Desk.{sessionAt, isActive}
 use Rattle.desk.specs.Entering.{imageFault}
 use Rattle.desk.proofs.Entered.{Entered, entered}
