@@ -1,14 +1,12 @@
 -- Finish in the listening room, by what the store's finish gives.
 use Prim.Native.Nat.{ℕ, zero, suc}
-use mathlib.Core.Bool.{Bool, true, false, cond, not, _||_, false≢true}
+use mathlib.Core.Bool.{Bool, true, false, cond, _||_, false≢true}
 use mathlib.Core.Path.{_≡_, refl, sym, ap, _∙_}
 use mathlib.Core.List.{List, []}
 use lib.Dec.{ltb}
-use borrow.Author.Tests.{lt-ltb, not-true, not-false}
 use Rattle.layout.specs.Checks.{unless, first, answered, roomFor}
 use Rattle.layout.specs.Told.{Told, refusal, empty}
 use Rattle.layout.proofs.ChecksLaws.{first-both, unless-zero, answered-zero, answered-not}
-use Rattle.layout.proofs.Says.{says-and, says-lt, says-itself}
 use Rattle.desk.specs.Coherent.{limit}
 use Rattle.desk.specs.Desk.{sessionAt, isActive}
 use Rattle.desk.specs.Entering.{imageFault}
@@ -19,6 +17,7 @@ use Rattle.commit.specs.Told.{finishTold}
 use Rattle.commit.specs.declared.finishing.FinishReply.{FinishReply}
 use Rattle.listening.specs.Listener.{noCopies, holdsCopies, listenerFault}
 use Rattle.listening.specs.Finish.{listenFinishReply, listenFinishSaid}
+use Rattle.listening.proofs.Holding.{bare-entered, held-some}
 
 -- what holds once the checks of the listening room have passed
 pub record Listener (img : List ℕ) (d : Desk) (room : Bool) (s : ℕ) : Type 0 where
@@ -63,9 +62,6 @@ module _ (img : List ℕ) (d : Desk) (len s : ℕ) where
 
   -- a session that holds no copies: the store's checks are the listening room's
   module _ (n : holdsCopies d s ≡ false) where
-    bare-entered : imageFault img d (roomFor len) s ≡ 0 → noCopies d s ≡ true
-    bare-entered z = not-false _ (rw (lt-ltb s 16 (entered img d (roomFor len) s z .small)) at n)
-
     same-fault : finishFault img d len s ≡ listenerFault img d (roomFor len) s
     unfolding finishFault listenerFault first
     same-fault = go (imageFault img d (roomFor len) s) refl
@@ -75,7 +71,7 @@ module _ (img : List ℕ) (d : Desk) (len s : ℕ) where
 
         go : (k : ℕ) → imageFault img d (roomFor len) s ≡ k
             → rest k ≡ first k (first (unless (isActive (sessionAt d s .phase)) 6) (unless (noCopies d s) 18))
-        go zero e = rw (bare-entered e) refl
+        go zero e = rw (bare-entered img d (roomFor len) s n e) refl
         go (suc k) e = refl
 
     pub finish-left : finishReply img d len s ≡ listenFinishReply img d len s
@@ -106,6 +102,4 @@ module _ (img : List ℕ) (d : Desk) (len s : ℕ) where
   finish-turned n k e = ap (finishRefused d) e ∙ sym (answered-not _ (finishRefused d) _ held)
     where
       held : listenerFault img d (roomFor len) s ≡ 0 → ⊥
-      held z =
-          let y = says-and (says-lt s 16) (says-itself (not (noCopies d s))) .yes n in
-          false≢true (sym (not-true _ (y .1)) ∙ listener img d (roomFor len) s z .bare)
+      held z = false≢true (sym (held-some d s n) ∙ listener img d (roomFor len) s z .bare)

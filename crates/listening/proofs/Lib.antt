@@ -1,3 +1,4 @@
+pub mod Holding
 pub mod ReadLaws
 pub mod FinishLaws
 pub mod FindLaws

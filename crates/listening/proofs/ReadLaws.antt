@@ -1,56 +1,35 @@
 -- Read in the listening room, by what the store's read gives.
-use Prim.Native.Nat.{ℕ, zero, suc, _<_}
+use Prim.Native.Nat.{ℕ, zero, suc}
 use mathlib.Core.Bool.{true, false, false≢true}
 use mathlib.Core.Path.{_≡_, refl, sym, ap, _∙_}
 use mathlib.Core.List.{List}
-use native.Mathlib.Omega.{arith}
-use borrow.Author.Tests.{ne-eqb}
-use Rattle.layout.specs.Checks.{answered}
+use Rattle.layout.specs.Checks.{unless, first, answered}
 use Rattle.layout.specs.Told.{Told, isRefusal}
-use Rattle.layout.proofs.ChecksLaws.{answered-refused, answered-next, answered-done, answered-zero, answered-not, first-both, answered-map}
-use Rattle.desk.specs.Desk.{sessionAt}
+use Rattle.layout.proofs.ChecksLaws.{first-both, answered-map}
 use Rattle.desk.specs.Entering.{imageFault}
 use Rattle.desk.specs.declared.state.Desk.{Desk}
-use Rattle.desk.proofs.Entered.{entered}
 use Rattle.snapshot.specs.Read.{readFault, readRefused, readDone, readReply}
 use Rattle.snapshot.specs.Told.{readTold}
 use Rattle.snapshot.specs.declared.reading.ReadAnswer.{ReadAnswer}
 use Rattle.snapshot.specs.declared.reading.ReadAnswer.the-variants.{Refused, Own, Copy, Home}
 use Rattle.snapshot.specs.declared.reading.ReadReply.{ReadReply}
 use Rattle.snapshot.proofs.ToldLaws.{read-done}
-use Rattle.listening.specs.Listener.{noCopies}
-use Rattle.listening.specs.Read.{refusedB, listenReadFault, listenReadReply, listenReadSaid}
+use Rattle.listening.specs.Listener.{noCopies, holdsCopies}
+use Rattle.listening.specs.Read.{heldFault, listenReadFault, listenReadReply, listenReadSaid}
+use Rattle.listening.proofs.Holding.{bare-entered, held-some}
 
 -- what a reply tells
 abbrev reads : ReadReply → Told
 reads x = readTold (x .answer) (x .words)
 
-refused-told : (a : ReadAnswer) (ws : List ℕ) → refusedB a ≡ isRefusal (readTold a ws)
-refused-told (Refused k) ws = refl
-refused-told Own ws = refl
-refused-told Copy ws = refl
-refused-told Home ws = refl
+-- a read that the store takes
+taken-held : (a : ReadAnswer) (ws : List ℕ) → isRefusal (readTold a ws) ≡ false → heldFault a ≡ 18
+taken-held (Refused k) ws e = absurd (false≢true (sym e))
+taken-held Own ws e = refl
+taken-held Copy ws e = refl
+taken-held Home ws e = refl
 
 module _ (img : List ℕ) (d : Desk) (s r : ℕ) where
-  -- past its checks read refuses nothing
-  done-taken : refusedB (readDone img d s r .answer) ≡ false
-  done-taken =
-      refused-told (readDone img d s r .answer) (readDone img d s r .words) ∙ ap isRefusal (read-done img d s r .tells) ∙ read-done img d s r .takes
-
-  -- so that it refuses just where one of its checks does
-  taken-passed : refusedB (readReply img d s r .answer) ≡ false → readFault img d s r ≡ 0
-  unfolding readReply answered
-  taken-passed = go (readFault img d s r)
-    where
-      go : (k : ℕ) → refusedB (answered k (readRefused d) (readDone img d s r) .answer) ≡ false → k ≡ 0
-      go zero e = refl
-      go (suc k) e = absurd (false≢true (sym e))
-
-  refused-fails : refusedB (readReply img d s r .answer) ≡ true → readFault img d s r ≡ 0 → ⊥
-  unfolding readReply
-  refused-fails t z =
-      false≢true (sym done-taken ∙ ap (λ (y : ReadReply). refusedB (y .answer)) (sym (answered-zero _ (readRefused d) (readDone img d s r) z)) ∙ t)
-
   -- what a reply tells is what it is to tell
   listen-read-told : reads (listenReadReply img d s r) ≡ listenReadSaid img d s r
   unfolding listenReadReply listenReadSaid
@@ -59,28 +38,22 @@ module _ (img : List ℕ) (d : Desk) (s r : ℕ) where
   pub listen-read-tells : {x : ReadReply} → x ≡ listenReadReply img d s r → (x ≡ listenReadReply img d s r) × (reads x ≡ listenReadSaid img d s r)
   listen-read-tells e = (e, rw e listen-read-told)
 
-  module _ (x : ReadReply) (e : x ≡ readReply img d s r) where
-    -- the store refuses
-    pub read-turned : refusedB (x .answer) ≡ true → x ≡ listenReadReply img d s r
-    unfolding readReply listenReadReply listenReadFault
-    read-turned t =
-        let n : readFault img d s r ≡ 0 → ⊥ = refused-fails (rw e at t) in
-        e ∙ answered-not _ (readRefused d) _ n ∙ sym (answered-refused _ _ (readRefused d) _ n)
+  -- a session that holds no copies: the store's read
+  pub read-heard : holdsCopies d s ≡ false → readReply img d s r ≡ listenReadReply img d s r
+  unfolding readReply listenReadReply listenReadFault first readFault
+  read-heard n = ap (λ k. answered k (readRefused d) (readDone img d s r)) (go (readFault img d s r) refl)
+    where
+      go : (k : ℕ) → readFault img d s r ≡ k → k ≡ first k (unless (noCopies d s) 18)
+      go zero e = rw (bare-entered img d true s n (first-both (imageFault img d true s) _ e .0)) refl
+      go (suc k) e = refl
 
-    module _ (t : refusedB (x .answer) ≡ false) where
-      pub read-passed : readFault img d s r ≡ 0
-      read-passed = taken-passed (rw e at t)
-
-      -- the session is one of the sixteen
-      pub read-small : s < 16
-      unfolding readFault
-      read-small = entered img d true s (first-both (imageFault img d true s) _ read-passed .0) .small
-
-      -- it holds copies
-      pub read-held : (sessionAt d s .count ≡ 0 → ⊥) → readRefused d 18 ≡ listenReadReply img d s r
-      unfolding listenReadReply listenReadFault
-      read-held n = rw (ne-eqb (sessionAt d s .count) 0 n) (sym (answered-next _ 18 (readRefused d) _ read-passed (λ z. omega arith)))
-
-      pub read-heard : noCopies d s ≡ true → x ≡ listenReadReply img d s r
-      unfolding readReply listenReadReply listenReadFault
-      read-heard y = e ∙ answered-zero _ (readRefused d) _ read-passed ∙ rw y (sym (answered-done _ 0 (readRefused d) _ read-passed refl))
+  -- one that holds copies: refused by the store's number, or else by 18
+  pub read-held : holdsCopies d s ≡ true → (x : ReadReply) → x ≡ readReply img d s r → readRefused d (heldFault (x .answer)) ≡ listenReadReply img d s r
+  unfolding readReply listenReadReply listenReadFault first answered
+  read-held n x e = rw (e, held-some d s n) (go (readFault img d s r))
+    where
+      go : (k : ℕ) → readRefused d (heldFault (answered k (readRefused d) (readDone img d s r) .answer)) ≡ answered (first k 18) (readRefused d) (readDone img d s r)
+      go zero =
+          ap (readRefused d)
+          (taken-held (readDone img d s r .answer) (readDone img d s r .words) (ap isRefusal (read-done img d s r .tells) ∙ read-done img d s r .takes))
+      go (suc k) = refl

@@ -1,6 +1,5 @@
 -- Read in the listening room (document 02, Req 03): the store's read; a session that holds copies is refused by 18. Checks 1, 2, 4, 5, 6, 18.
 use Prim.Native.Nat.{ℕ}
-use mathlib.Core.Bool.{Bool, true, false}
 use mathlib.Core.List.{List}
 use Rattle.layout.specs.Checks.{unless, first, answered}
 use Rattle.layout.specs.Told.{Told, refusal}
@@ -11,11 +10,12 @@ use Rattle.snapshot.specs.declared.reading.ReadAnswer.the-variants.{Refused, Ow
 use Rattle.snapshot.specs.declared.reading.ReadReply.{ReadReply}
 use Rattle.listening.specs.Listener.{noCopies}
 
-abbrev pub refusedB : ReadAnswer → Bool
-refusedB (Refused k) = true
-refusedB Own = false
-refusedB Copy = false
-refusedB Home = false
+-- the number that a read of a session with copies is refused by: the store's, or else 18
+abbrev pub heldFault : ReadAnswer → ℕ
+heldFault (Refused k) = k
+heldFault Own = 18
+heldFault Copy = 18
+heldFault Home = 18
 
 unfoldable pub listenReadFault : List ℕ → Desk → ℕ → ℕ → ℕ
 listenReadFault img d s r = first (readFault img d s r) (unless (noCopies d s) 18)
