@@ -256,13 +256,13 @@ newestReader f = lowest 16 (λ t. allBelow 16 (λ u. leb (f u) (f t)))
 
 -- ---- impostors that break document 02's Req 03
 
+-- the shelf number of a find
 abbrev pub soughtListening : Listening → ℕ
 soughtListening (Begin s) = 0
 soughtListening (Read s r) = 0
 soughtListening (Finish len s) = 0
 soughtListening (Find s k) = k
 
--- the shelf number of a find
 abbrev pub sought : Call → ℕ
 sought (begin s) = 0
 sought (read s r) = 0

@@ -1,6 +1,6 @@
--- Document 01, "What is turned away", with the rows of document 02's Req 03, as one table: the causes with their numbers, and for each call the row of causes that it asks, in
--- order. The number told is that of the first cause in the row that holds, 0 where none does; with it go the values that the table lists,
--- and a refusal leaves as it was what the table says.
+-- Document 01, "What is turned away", with the listening room's rows (document 02, Req 03), as one table: the causes with their numbers, and
+-- for each call the row of causes that it asks, in order. The number told is that of the first cause in the row that holds, 0 where none
+-- does; with it go the values that the table lists, and a refusal leaves as it was what the table says.
 use Prim.Native.Nat.{ℕ, _+_, _-_, _*_}
 use mathlib.Core.Bool.{Bool, true, false, _&&_, not, cond}
 use mathlib.Core.Path.{_≡_}

@@ -52,7 +52,7 @@ pub record Rules : Type 0 where
   pub call : List ℕ → Desk → Call → Reply
   pub recover : List ℕ → ℕ → Recovery
 
--- a call that stores nothing, and a search that does not
+-- a call that stores nothing, and one that looks at records besides
 abbrev pub tells : Told → Desk → Reply
 tells t d = record { told = t; entries = []; count = 0; desk = d; looks = noLooks }
 

@@ -173,19 +173,21 @@ abbrev pub ifNoCopies : List Copy → Due → Due
 ifNoCopies [] y = y
 ifNoCopies (c ∷ cs) y = refuse 18
 
+-- read: a session without copies reads the history's view at its start
 abbrev pub hears : ℕ → Desk → History → ℕ → Session → Due
 hears M d h r idle = refuse 6
 hears M d h r (active b q cs) = ifNoCopies cs (readsOther (shownBy b d (holder M d r)) (viewAt h b r))
 hears M d h r (sealed n q cs) = refuse 6
 hears M d h r (published e q cs) = refuse 6
 
+-- finish: without copies, "empty"
 abbrev pub leaves : Session → Due
 leaves idle = refuse 6
 leaves (active b q cs) = ifNoCopies cs (say empty)
 leaves (sealed n q cs) = refuse 6
 leaves (published e q cs) = refuse 6
 
--- the first record whose word 0, as the history's view at the start b has it, is k
+-- find: the first record whose word 0, as the history's view at the start b has it, is k, or "none"
 abbrev pub shelvedAt : History → ℕ → ℕ → ℕ → Bool
 shelvedAt h b k r = eqb (getD (viewAt h b r) 0 0) k
 

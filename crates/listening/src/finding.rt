@@ -1,9 +1,9 @@
 // Find: the first record of the session's snapshot whose word 0 is the shelf number. The checks are made once; then each record is looked at
 // by what the store shows of it.
+ghost use mathlib.Core.Bool.{true};
 ghost use mathlib.Core.Path.{_≡_};
-ghost use Prim.Native.Nat.{_<_};
 ghost use Rattle.layout.specs.Below.{lowest};
-ghost use Rattle.desk.proofs.Facts.{Coherent};
+ghost use Rattle.desk.specs.Coherent.{coherentB};
 ghost use Rattle.listening.specs.Find.{seenMatches, findGives, findReply, findSaid};
 ghost use Rattle.listening.specs.Told.{findTold};
 use crate::listener::listener_fault;
@@ -34,7 +34,7 @@ fn gives(desk: Desk, answer: FindAnswer) -> FindReply
 
 // The first record from 0 up whose word 0, as a reader with this start sees it, is the number; N where there is none.
 fn first_match(image: &[u64], desk: Desk, start: u64, shelf: u64) -> u64
-    requires { ⌜ Coherent desk ⌝ }
+    requires { ⌜ coherentB desk ≡ true ⌝ }
     ensures { λ r. ⌜ r ≡ lowest (desk .n) (seenMatches (now (image .entry)) desk start shelf) ⌝ }
 {
     let n = desk.n;

@@ -2,6 +2,7 @@ use mathlib.Core.Bool.{true}
 use mathlib.Core.Path.{_≡_, sym, _∙_}
 use native.Mathlib.Omega.{arith}
 use borrow.Author.Tests.{not-true, not-false, lt-ltb, le-ltb}
+use Rattle.desk.proofs.Facts.{says-coherent}
 use Rattle.reels.specs.Reel.{shelfB}
 use Rattle.listening.specs.Find.{firstMatch}
 use Rattle.listening.specs.Listener.{listenerFault}
@@ -57,7 +58,7 @@ start-of-requires : tie.Need-start-of-requires
 start-of-requires c κs = search needs
 
 first-match-requires : tie.Need-first-match-requires
-first-match-requires c κs = inside (c .before .before) .session .coherent
+first-match-requires c κs = says-coherent _ .no (inside (c .before .before) .session .coherent)
 
 gives-requires-3 : tie.Need-gives-requires-3
 gives-requires-3 c κs = search needs

@@ -5,6 +5,7 @@ use borrow.Author.Tests.{eq-eqb, ne-eqb}
 use lib.ListN.{getD}
 use Rattle.layout.specs.Below.{lowest}
 use Rattle.layout.proofs.BelowLaws.{lowest-more, lowest-finds}
+use Rattle.desk.proofs.Facts.{says-coherent}
 use Rattle.snapshot.specs.Read.{sightAt}
 use Rattle.snapshot.specs.declared.seeing.Sight.{Sight}
 use Rattle.snapshot.proofs.OwnPlace.{holder-small, holder-found}
@@ -22,10 +23,10 @@ abbrev μ-loop : tie.MeasureT-loop
 
 -- the record is one of the 256
 small : (c : tie.In-loop Inv-loop μ-loop) → c .before .loop .r < 256
-small c = omega (arith, c .before .before .before .pre .n-high)
+small c = omega (arith, says-coherent _ .yes (c .before .before .before .pre) .n-high)
 
 holder : (c : tie.After-marked-session Inv-loop μ-loop) → c .marked-session .result < 16
-holder c = rw (c .marked-session .ensures) (holder-small _ (c .before .before .before .before .before .pre) _ (small (c .before .before)))
+holder c = rw (c .marked-session .ensures) (holder-small _ (says-coherent _ .yes (c .before .before .before .before .before .pre)) _ (small (c .before .before)))
 
 -- word 0 of what is seen of it
 word-is : (c : tie.After-words Inv-loop μ-loop)
@@ -56,7 +57,7 @@ element-copy-out-holder c = holder c
 seen-requires : tie.Need-seen-requires Inv-loop μ-loop
 seen-requires c κs =
     let m = c .before in
-    (small (m .before .before), holder-found _ (m .before .before .before .before .before .pre) _ (small (m .before .before)) _ (m .marked-session .ensures))
+    (small (m .before .before), holder-found _ (says-coherent _ .yes (m .before .before .before .before .before .pre)) _ (small (m .before .before)) _ (m .marked-session .ensures))
 
 array-read-if1 : tie.Need-array-read-if1 Inv-loop μ-loop
 array-read-if1 c = search needs
