@@ -1,9 +1,10 @@
--- Every list of entries is tidy.
+-- Every list of entries is tidy, and each number of the table is the formula's.
 use mathlib.Core.Path.{refl}
 use Rattle.commit.proofs.Lists.{finish-tidy, settle-tidy, reclaim-tidy, finish-length, settle-length}
 use Rattle.recovery.proofs.Lists.{recover-tidy, recover-length}
 use Rattle.listening.proofs.FinishLaws.{no-entries}
-use Rattle.claims.specs.Lists.{Lists}
+use Rattle.journal.specs.Lengths.{finishLength, settleLength, recoverLength}
+use Rattle.claims.specs.Lists.{Lists, LengthTable}
 
 pub lists : Lists
 lists =
@@ -17,4 +18,22 @@ lists =
       settle-count = settle-length;
       reclaim-count = λ img d s. refl;
       recover-count = recover-length;
+    }
+
+pub length-table : LengthTable
+unfolding finishLength settleLength recoverLength
+length-table =
+    record {
+      finish-1 = refl;
+      finish-2 = refl;
+      finish-3 = refl;
+      finish-4 = refl;
+      settle-1 = refl;
+      settle-2 = refl;
+      settle-3 = refl;
+      settle-4 = refl;
+      recover-1 = refl;
+      recover-2 = refl;
+      recover-3 = refl;
+      recover-4 = refl;
     }

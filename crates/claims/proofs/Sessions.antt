@@ -13,7 +13,7 @@ use borrow.Author.Tests.{ltb-true, ltb-false, eqb-true, eqb-false}
 use Rattle.layout.specs.Below.{lowest}
 use Rattle.layout.proofs.Says.{says-lt, says-eq, says-and, by-test}
 use Rattle.layout.proofs.Groups.{Differ}
-use Rattle.desk.specs.Desk.{noCopy, copyAt, copiedRec, isActive, isSealed, zeroCopy, idleSession, withPhase}
+use Rattle.desk.specs.Desk.{noCopy, copyAt, copiedRec, isActive, zeroCopy, idleSession, withPhase}
 use Rattle.desk.specs.Coherent.{zeroCopyB, placeHas}
 use Rattle.desk.specs.declared.state.Phase.{Phase}
 use Rattle.desk.specs.declared.state.Phase.the-variants.{Idle, Active, Sealed, Published}
@@ -62,13 +62,6 @@ idle-in clock n =
 -- an idle session copies nothing
 pub idle-none : (k : ℕ) → Copies idleSession k → ⊥
 idle-none k c = not-suc-le-zero (c .2 .0)
-
--- a sealed session has a copy
-pub sealed-some : (p : Phase) (k : ℕ) → isSealed p ≡ true → CountIn p k → 1 ≤ k
-sealed-some Idle k e h = absurd (false≢true e)
-sealed-some (Active b) k e h = absurd (false≢true e)
-sealed-some (Sealed p) k e h = h .0
-sealed-some (Published b) k e h = h .0
 
 -- an active session may have any number of copies up to four
 active-any : (p : Phase) (k : ℕ) → isActive p ≡ true → k ≤ 4 → CountIn p k

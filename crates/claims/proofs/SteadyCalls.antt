@@ -19,7 +19,7 @@ use Rattle.desk.specs.Abandon.{abandonFault, abandonRefused, abandoned, abandon
 use Rattle.desk.specs.Publish.{publishFault, publishRefused, published, publishReply}
 use Rattle.desk.specs.declared.state.Phase.the-variants.{Active, Sealed, Published}
 use Rattle.desk.specs.declared.state.Desk.{Desk}
-use Rattle.desk.proofs.Copied.{copies-four}
+use Rattle.desk.proofs.Copied.{copies-four, copies-some}
 use Rattle.desk.proofs.DeskEntered.{desk-entered}
 use Rattle.desk.specs.Entering.{deskFault, imageFault}
 use Rattle.layout.specs.Checks.{roomFor}
@@ -36,7 +36,7 @@ use Rattle.listening.specs.Read.{listenReadFault, listenReadReply}
 use Rattle.listening.specs.Finish.{listenFinishReply}
 use Rattle.listening.specs.Find.{findFault, findRefused, findDone, findReply}
 use Rattle.listening.proofs.FinishLaws.{finish-done}
-use Rattle.claims.proofs.Sessions.{idle-in, idle-none, sealed-some}
+use Rattle.claims.proofs.Sessions.{idle-in, idle-none}
 use Rattle.claims.proofs.Steady.{Steady, Kept, adds, phase-kept, drop-kept, overwrite-kept, copy-kept}
 
 -- the desk of an opened store, where nothing is marked
@@ -99,7 +99,7 @@ publish-kept d s h =
     let sealed = unless-zero (sealedAt d s) 5 (f .1) in
     let a = ap adds sealed in
     phase-kept d s h (e .below-m) (Published (d .clock + 1)) (d .clock + 1) (omega arith) (inl (omega arith))
-    (sealed-some (sessionAt d s .phase) (sessionAt d s .count) sealed (h .coherent .session s (e .below-16) .count), copies-four d (h .coherent) s (e .below-16))
+    (copies-some d (h .coherent) s (e .below-16) (rw sealed), copies-four d (h .coherent) s (e .below-16))
     (omega (arith, h .coherent .clock-low), omega arith))
 
 -- checks that refuse with a number above those of the first ones have passed these

@@ -4,6 +4,7 @@ use mathlib.Core.Path.{_≡_}
 use mathlib.Core.List.{List}
 use lib.ListN.{length}
 use Rattle.layout.specs.Tidy.{Tidy}
+use Rattle.journal.specs.Lengths.{finishLength, settleLength, recoverLength}
 use Rattle.journal.specs.Log.{countOf}
 use Rattle.desk.specs.Desk.{sessionAt}
 use Rattle.desk.specs.declared.state.Desk.{Desk}
@@ -28,3 +29,18 @@ pub record Lists : Type 0 where
   pub settle-count : (d : Desk) (s : ℕ) → length (goHomeEntries d s) ≡ 4 * sessionAt d s .count + 1
   pub reclaim-count : (img : List ℕ) (d : Desk) (s : ℕ) → length (clearEntries img d s) ≡ 2
   pub recover-count : (img : List ℕ) (p : ℕ) → length (replayEntries img p) ≡ 4 * countOf (logAt img p) + 3
+
+-- The table of document 02's Req 04, number by number: each is document 01's formula, 5c + 4, 4c + 1 or 4c + 3, for c copies.
+pub record LengthTable : Type 0 where
+  pub finish-1 : finishLength 1 ≡ 5 * 1 + 4
+  pub finish-2 : finishLength 2 ≡ 5 * 2 + 4
+  pub finish-3 : finishLength 3 ≡ 5 * 3 + 4
+  pub finish-4 : finishLength 4 ≡ 5 * 4 + 4
+  pub settle-1 : settleLength 1 ≡ 4 * 1 + 1
+  pub settle-2 : settleLength 2 ≡ 4 * 2 + 1
+  pub settle-3 : settleLength 3 ≡ 4 * 3 + 1
+  pub settle-4 : settleLength 4 ≡ 4 * 4 + 1
+  pub recover-1 : recoverLength 1 ≡ 4 * 1 + 3
+  pub recover-2 : recoverLength 2 ≡ 4 * 2 + 3
+  pub recover-3 : recoverLength 3 ≡ 4 * 3 + 3
+  pub recover-4 : recoverLength 4 ≡ 4 * 4 + 3

@@ -1,5 +1,5 @@
 -- Finish, case by case.
-use Prim.Native.Nat.{ℕ, _+_, _*_, _-_, _<_, _≤_}
+use Prim.Native.Nat.{ℕ, _+_, _-_, _<_, _≤_}
 use mathlib.Core.Bool.{_||_}
 use mathlib.Core.Path.{_≡_, sym, ap, _∙_}
 use mathlib.Core.List.{List, [], _++_}
@@ -11,6 +11,7 @@ use Rattle.layout.specs.Checks.{unless, first}
 use Rattle.layout.proofs.ChecksLaws.{answered-refused, answered-passed, answered-zero, answered-not}
 use Rattle.layout.specs.Entries.{Entry, shift, made, listed}
 use Rattle.layout.specs.Image.{placeOf, slotAt}
+use Rattle.journal.specs.Lengths.{finishLength}
 use Rattle.journal.specs.Log.{logEntries}
 use Rattle.layout.proofs.TraceLaws.{made-tail}
 use Rattle.desk.specs.Desk.{copiedRec, copiedWords, sessionAt, isActive, idleSession, withPhase, putSession}
@@ -26,7 +27,6 @@ use Rattle.commit.proofs.ToldLaws.{finish-tells}
 use Rattle.commit.specs.declared.finishing.FinishAnswer.the-variants.{Empty, Sealed as SealedAt}
 use Rattle.commit.specs.declared.finishing.FinishReply.{FinishReply}
 use Rattle.desk.proofs.Entered.{entered}
-use Rattle.commit.proofs.Lists.{finish-length}
 
 -- past the checks 1 to 4 the session's slot lies within the image, and its log within the slot and the trace
 pub record SlotFits (img : List ℕ) (d : Desk) (len s : ℕ) : Type 0 where
@@ -99,12 +99,12 @@ module _ (img : List ℕ) (d : Desk) (len s : ℕ) where
       -- with copies
       pub finish-sealed : (sessionAt d s .count ≡ 0 → ⊥)
           → Finishes img d len s
-          (record { answer = SealedAt (d .clock); entries = 5 * sessionAt d s .count + 4; desk = putSession d s (withPhase (sessionAt d s) (Sealed (d .clock))) })
+          (record { answer = SealedAt (d .clock); entries = finishLength (sessionAt d s .count); desk = putSession d s (withPhase (sessionAt d s) (Sealed (d .clock))) })
           (sealEntries d s)
       unfolding finishReply finishEntries finishFault
       finish-sealed n =
           record {
-            reply = answered-passed _ _ (finishRefused d) _ z ∙ answered-zero _ (finishRefused d) _ y ∙ rw (ne-eqb _ 0 n, finish-length d s);
+            reply = answered-passed _ _ (finishRefused d) _ z ∙ answered-zero _ (finishRefused d) _ y ∙ rw (ne-eqb _ 0 n);
             lists = answered-passed _ _ (λ k. []) _ z ∙ answered-zero _ (λ k. []) _ y ∙ rw (ne-eqb _ 0 n);
           }
 

@@ -1,25 +1,29 @@
 -- Every list of entries of finish, settle and reclaim is tidy.
 use Prim.Native.Nat.{ℕ, _+_, _*_}
-use mathlib.Core.Path.{_≡_, refl, _∙_}
+use mathlib.Core.Bool.{or-true}
+use mathlib.Core.Path.{_≡_, refl, sym, _∙_}
 use mathlib.Core.List.{List, [], _∷_}
 use native.Mathlib.Omega.{arith}
 use lib.ListN.{length, length-append}
 use lib.Dec.{eqb}
+use borrow.Author.Tests.{eqb-false}
 use Rattle.layout.specs.Entries.{Entry, fence, Write, stores}
 use Rattle.layout.specs.Homes.{homesWrites}
 use Rattle.layout.specs.Checks.{roomFor}
 use Rattle.layout.specs.Image.{placeOf, slotAt}
 use Rattle.layout.specs.Tidy.{Tidy}
-use Rattle.layout.proofs.ChecksLaws.{first-both}
+use Rattle.layout.proofs.ChecksLaws.{first-both, unless-zero}
 use Rattle.layout.proofs.TraceLaws.{length-shift}
 use Rattle.layout.proofs.TidyLaws.{tidy-none, tidy-cond, tidy-answered, tidy-list}
 use Rattle.layout.proofs.Groups.{homes-distinct, length-homes, length-stores, once-group, once-shift, ends-append, ends-shift}
+use Rattle.journal.specs.Lengths.{finishLength, settleLength}
 use Rattle.journal.specs.Log.{logEntries}
+use Rattle.journal.proofs.LengthLaws.{finish-formula, settle-formula}
 use Rattle.journal.proofs.LogGroups.{log-length, log-once, log-ends}
-use Rattle.desk.specs.Desk.{copiedRec, copiedWords, sessionAt}
+use Rattle.desk.specs.Desk.{copiedRec, copiedWords, sessionAt, isSealed, isPublished}
 use Rattle.desk.specs.Entering.{imageFault}
 use Rattle.desk.specs.declared.state.Desk.{Desk}
-use Rattle.desk.proofs.Copied.{copies-four, copies-differ}
+use Rattle.desk.proofs.Copied.{copies-four, copies-some, copies-differ}
 use Rattle.desk.proofs.Entered.{entered}
 use Rattle.commit.specs.Finish.{finishFault, finishEntries, sealEntries, finishRefused, finishReply}
 use Rattle.commit.specs.Settle.{settleFault, settleEntries, goHomeEntries, waitsB, settleRefused, settleReply}
@@ -37,7 +41,7 @@ pub finish-tidy : (img : List ℕ) (d : Desk) (len s : ℕ) → Tidy (finishFaul
 unfolding finishReply finishEntries finishFault
 finish-tidy img d len s =
     tidy-answered (λ (r : FinishReply). r .entries) (finishFault img d len s) (finishRefused d) _ _ (λ k. refl)
-    (λ z. tidy-cond (λ (r : FinishReply). r .entries) (eqb (sessionAt d s .count) 0) _ _ [] (sealEntries d s) (λ e. tidy-none 0 refl) (λ e. seals z))
+    (λ z. tidy-cond (λ (r : FinishReply). r .entries) (eqb (sessionAt d s .count) 0) _ _ [] (sealEntries d s) (λ e. tidy-none 0 refl) (λ e. seals z (eqb-false _ _ e)))
   where
     base : ℕ
     base = slotAt (d .n) (placeOf s (sessionAt d s .slot))
@@ -45,11 +49,13 @@ finish-tidy img d len s =
     log : List Entry
     log = logEntries (d .clock) (copiedRec (sessionAt d s)) (copiedWords (sessionAt d s)) (sessionAt d s .count)
 
-    seals : finishFault img d len s ≡ 0 → Tidy 0 (length (sealEntries d s)) (sealEntries d s)
-    seals z =
+    seals : finishFault img d len s ≡ 0 → (sessionAt d s .count ≡ 0 → ⊥) → Tidy 0 (finishLength (sessionAt d s .count)) (sealEntries d s)
+    seals z n =
         let e = entered img d (roomFor len) s (first-both (imageFault img d (roomFor len) s) _ z .0) in
-        tidy-list (sealEntries d s)
-        (omega (arith, finish-length d s, copies-four d (e .coherent) s (e .small)))
+        let few = copies-four d (e .coherent) s (e .small) in
+        tidy-list _ (sealEntries d s)
+        (finish-formula (sessionAt d s .count) (omega (arith, n)) few ∙ sym (finish-length d s))
+        (omega (arith, finish-length d s, few))
         (once-shift base log ∙ log-once (d .clock) (copiedRec (sessionAt d s)) (copiedWords (sessionAt d s)) (sessionAt d s .count))
         (ends-shift base log ∙ log-ends (d .clock) (copiedRec (sessionAt d s)) (copiedWords (sessionAt d s)) (sessionAt d s .count))
 
@@ -72,11 +78,15 @@ settle-tidy img d len s =
     ws : List Write
     ws = homesWrites (copiedRec (sessionAt d s)) (copiedWords (sessionAt d s)) (sessionAt d s .count)
 
-    settles : settleFault img d len s ≡ 0 → Tidy 0 (length (goHomeEntries d s)) (goHomeEntries d s)
+    settles : settleFault img d len s ≡ 0 → Tidy 0 (settleLength (sessionAt d s .count)) (goHomeEntries d s)
     settles z =
-        let e = entered img d (roomFor len) s (first-both (imageFault img d (roomFor len) s) _ z .0) in
-        tidy-list (goHomeEntries d s)
-        (omega (arith, settle-length d s, copies-four d (e .coherent) s (e .small)))
+        let b = first-both (imageFault img d (roomFor len) s) _ z in
+        let e = entered img d (roomFor len) s (b .0) in
+        let few = copies-four d (e .coherent) s (e .small) in
+        let some = copies-some d (e .coherent) s (e .small) (rw (unless-zero (isPublished (sessionAt d s .phase)) 5 (b .1)) (or-true (isSealed (sessionAt d s .phase)))) in
+        tidy-list _ (goHomeEntries d s)
+        (settle-formula (sessionAt d s .count) some few ∙ sym (settle-length d s))
+        (omega (arith, settle-length d s, few))
         (once-group ws [] (homes-distinct (copiedRec (sessionAt d s)) (copiedWords (sessionAt d s)) (sessionAt d s .count) (copies-differ d (e .coherent) s (e .small))) refl)
         (ends-append (stores ws) fence [] refl)
 
@@ -86,4 +96,4 @@ reclaim-tidy img d len s =
     tidy-answered (λ (r : ReclaimReply). r .entries) (reclaimFault img d len s) (reclaimRefused d) _ _ (λ k. refl)
     (λ z. tidy-cond (λ (r : ReclaimReply). r .entries) (noneLeft img d s) _ _ [] _ (λ e. tidy-none 0 refl)
     (λ e. tidy-cond (λ (r : ReclaimReply). r .entries) (heldB img d s) _ _ [] (clearEntries img d s) (λ e. tidy-none 0 refl)
-    (λ e. tidy-list (clearEntries img d s) (omega arith) refl refl)))
+    (λ e. tidy-list _ (clearEntries img d s) refl (omega arith) refl refl)))

@@ -1,5 +1,5 @@
 -- Settle, case by case.
-use Prim.Native.Nat.{ℕ, _+_, _*_}
+use Prim.Native.Nat.{ℕ}
 use mathlib.Core.Bool.{true, false}
 use mathlib.Core.Path.{_≡_, sym, ap, _∙_}
 use mathlib.Core.List.{List, []}
@@ -8,6 +8,7 @@ use Rattle.layout.specs.Checks.{answered}
 use Rattle.layout.proofs.ChecksLaws.{answered-refused, answered-passed}
 use Rattle.layout.specs.Entries.{Entry}
 use Rattle.layout.specs.declared.oldest.Oldest.{Oldest}
+use Rattle.journal.specs.Lengths.{settleLength}
 use Rattle.desk.specs.Desk.{sessionAt, isPublished, dropped}
 use Rattle.desk.specs.declared.state.Desk.{Desk}
 use Rattle.desk.specs.Entering.{imageFault}
@@ -15,7 +16,6 @@ use Rattle.layout.specs.Checks.{roomFor}
 use Rattle.commit.specs.Settle.{settleFault, oldestReader, goHomeEntries, settleEntries, settleRefused, settleReply}
 use Rattle.commit.specs.declared.settling.SettleAnswer.the-variants.{Wait, Ok}
 use Rattle.commit.specs.declared.settling.SettleReply.{SettleReply}
-use Rattle.commit.proofs.Lists.{settle-length}
 
 -- what settle answers, and what it lists
 pub record Settles (img : List ℕ) (d : Desk) (len s : ℕ) (reply : SettleReply) (entries : List Entry) : Type 0 where
@@ -54,10 +54,10 @@ module _ (img : List ℕ) (d : Desk) (len s : ℕ) where
 
       -- the copies go home
       pub settle-stores : reader .number ≡ 0
-          → Settles img d len s (record { answer = Ok; entries = 4 * sessionAt d s .count + 1; desk = dropped d s }) (goHomeEntries d s)
+          → Settles img d len s (record { answer = Ok; entries = settleLength (sessionAt d s .count); desk = dropped d s }) (goHomeEntries d s)
       unfolding settleReply settleEntries settleFault answered
       settle-stores n =
           record {
-            replies = answered-passed _ _ (settleRefused d) _ z ∙ rw (a, ← o, eq-eqb (reader .number) 0 n, settle-length d s);
+            replies = answered-passed _ _ (settleRefused d) _ z ∙ rw (a, ← o, eq-eqb (reader .number) 0 n);
             lists = answered-passed _ _ (λ _. []) _ z ∙ rw (a, ← o, eq-eqb (reader .number) 0 n);
           }

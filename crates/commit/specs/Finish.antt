@@ -4,10 +4,10 @@
 use Prim.Native.Nat.{ℕ}
 use mathlib.Core.Bool.{_||_, cond}
 use mathlib.Core.List.{List, []}
-use lib.ListN.{length}
 use lib.Dec.{ltb, eqb}
 use Rattle.layout.specs.Checks.{unless, first, answered}
 use Rattle.layout.specs.Entries.{Entry, shift}
+use Rattle.journal.specs.Lengths.{finishLength}
 use Rattle.journal.specs.Log.{logEntries}
 use Rattle.layout.specs.Image.{placeOf, slotAt}
 use Rattle.desk.specs.Desk.{copiedRec, copiedWords, sessionAt, isActive, idleSession, withPhase, putSession}
@@ -39,13 +39,14 @@ finishEntries img d len s =
 abbrev pub finishRefused : Desk → ℕ → FinishReply
 finishRefused d k = record { answer = Refused k; entries = 0; desk = d }
 
+-- the number of entries is the table's, by the number of copies
 abbrev pub finishDone : Desk → ℕ → FinishReply
 finishDone d s =
     cond (eqb (sessionAt d s .count) 0)
     (record { answer = Empty; entries = 0; desk = putSession d s idleSession })
     (record {
       answer = SealedAt (d .clock);
-      entries = length (sealEntries d s);
+      entries = finishLength (sessionAt d s .count);
       desk = putSession d s (withPhase (sessionAt d s) (Sealed (d .clock)));
     })
 

@@ -4,13 +4,13 @@
 use Prim.Native.Nat.{ℕ}
 use mathlib.Core.Bool.{Bool, not, cond}
 use mathlib.Core.List.{List, [], _∷_, _++_}
-use lib.ListN.{length}
 use lib.Dec.{eqb, ltb}
 use Rattle.layout.specs.Checks.{unless, first, answered}
 use Rattle.layout.specs.Entries.{Entry, fence, stores}
 use Rattle.layout.specs.Homes.{homesWrites}
 use Rattle.layout.specs.Oldest.{oldestOf}
 use Rattle.layout.specs.declared.oldest.Oldest.{Oldest}
+use Rattle.journal.specs.Lengths.{settleLength}
 use Rattle.desk.specs.Desk.{copiedRec, copiedWords, sessionAt, isPublished, dropped}
 use Rattle.desk.specs.declared.state.Phase.{Phase}
 use Rattle.desk.specs.declared.state.Phase.the-variants.{Idle, Active, Sealed, Published}
@@ -62,11 +62,12 @@ settleEntries img d len s = answered (settleFault img d len s) (λ k. []) (cond 
 abbrev pub settleRefused : Desk → ℕ → SettleReply
 settleRefused d k = record { answer = Refused k; entries = 0; desk = d }
 
+-- the number of entries is the table's, by the number of copies
 abbrev pub settleDone : Desk → ℕ → SettleReply
 settleDone d s =
     cond (waitsB d s)
     (record { answer = Wait (oldestReader d s .place); entries = 0; desk = d })
-    (record { answer = Ok; entries = length (goHomeEntries d s); desk = dropped d s })
+    (record { answer = Ok; entries = settleLength (sessionAt d s .count); desk = dropped d s })
 
 unfoldable pub settleReply : List ℕ → Desk → ℕ → ℕ → SettleReply
 settleReply img d len s = answered (settleFault img d len s) (settleRefused d) (settleDone d s)

@@ -89,5 +89,6 @@ pub fn finish(image: &mut [u64], mut desk: Desk, trace: &mut [u64], session: u64
     let copies = e.copies;
     journal::write_log(&mut image[from..], base, trace, copies, count, clock);
     desk.sessions[i] = with_phase(e, Phase::Sealed(clock));
-    gives(desk, FinishAnswer::Sealed(clock), 5 * count + 4)
+    let entries = journal::finish_length(count);
+    gives(desk, FinishAnswer::Sealed(clock), entries)
 }

@@ -108,5 +108,5 @@ pub fn settle(image: &mut [u64], mut desk: Desk, trace: &mut [u64], session: u64
     layout::put_fence(trace, at);
     unmark(&mut desk.holders, copies, count);
     desk.sessions[i] = idle_session();
-    answers(desk, SettleAnswer::Ok, 4 * count + 1)
+    answers(desk, SettleAnswer::Ok, journal::settle_length(count))
 }

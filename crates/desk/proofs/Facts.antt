@@ -1,6 +1,6 @@
 -- What a coherent desk is, as plain facts, and that `coherentB` is true just there.
 use Prim.Native.Nat.{ℕ, _+_, _<_, _≤_}
-use mathlib.Core.Bool.{true}
+use mathlib.Core.Bool.{true, _||_, false≢true}
 use mathlib.Core.Path.{_≡_, refl}
 use mathlib.Core.Logic.{_⊎_}
 use native.Mathlib.Omega.{arith}
@@ -10,7 +10,7 @@ use Rattle.desk.specs.declared.state.Desk.{Desk}
 use Rattle.desk.specs.declared.state.Session.{Session}
 use Rattle.desk.specs.declared.state.Phase.{Phase}
 use Rattle.desk.specs.declared.state.Phase.the-variants.{Idle, Active, Sealed, Published}
-use Rattle.desk.specs.Desk.{copyAt, sessionAt, markAt, isIdle}
+use Rattle.desk.specs.Desk.{copyAt, sessionAt, markAt, isIdle, isSealed, isPublished}
 use Rattle.desk.specs.Coherent.{limit, copiesB, markOk, entryOk, sessionOk, placesOk, placeOk, freshB, countOk, numberOk, zeroCopyB, sealedAt, sizesOk, coherentB}
 
 abbrev pub CountIn : Phase → ℕ → Type 0
@@ -31,6 +31,13 @@ count-four Idle k h = omega arith
 count-four (Active b) k h = h
 count-four (Sealed p) k h = h .1
 count-four (Published e) k h = h .1
+
+-- at least one copy in a sealed or published session
+pub count-one : (p : Phase) (k : ℕ) → isSealed p || isPublished p ≡ true → CountIn p k → 1 ≤ k
+count-one Idle k e h = absurd (false≢true e)
+count-one (Active b) k e h = absurd (false≢true e)
+count-one (Sealed p) k e h = h .0
+count-one (Published b) k e h = h .0
 
 abbrev pub NumberIn : Phase → ℕ → Type 0
 NumberIn Idle t = Unit {0}

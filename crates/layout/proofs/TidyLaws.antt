@@ -28,5 +28,5 @@ tidy-answered n (suc k) refusal done es z t =
     record { refused = λ r. refl; short = omega arith; apart = refl; fenced = refl; counted = z (suc k) }
 
 -- a list that is stored in full
-pub tidy-list : (es : List Entry) → length es ≤ 24 → once es ≡ true → endsFenced es ≡ true → Tidy 0 (length es) es
-tidy-list es l o f = record { refused = λ r. absurd (r refl); short = l; apart = o; fenced = f; counted = refl }
+pub tidy-list : (n : ℕ) (es : List Entry) → n ≡ length es → length es ≤ 24 → once es ≡ true → endsFenced es ≡ true → Tidy 0 n es
+tidy-list n es c l o f = record { refused = λ r. absurd (r refl); short = l; apart = o; fenced = f; counted = c }

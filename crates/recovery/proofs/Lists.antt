@@ -15,8 +15,10 @@ use Rattle.layout.proofs.BelowLaws.{lowest-none}
 use Rattle.layout.proofs.ChecksLaws.{first-both, unless-zero}
 use Rattle.layout.proofs.TidyLaws.{tidy-none, tidy-cond, tidy-answered, tidy-list}
 use Rattle.layout.proofs.Groups.{homes-distinct, length-homes, length-stores, once-group, ends-append}
+use Rattle.journal.specs.Lengths.{recoverLength}
 use Rattle.journal.specs.Log.{countOf, recOf, wordsOf, denoted, unsoundB}
 use Rattle.layout.proofs.Least.{oldest-is}
+use Rattle.journal.proofs.LengthLaws.{recover-formula}
 use Rattle.journal.proofs.LogFacts.{Sound, sound-of}
 use Rattle.recovery.specs.Recover.{slotsOf, logAt, unsoundPlace, recoverFault, firstLog, cleanB, recoverEntries, replayEntries, recoverRefused, recoverReply}
 use Rattle.recovery.specs.declared.recovering.RecoverReply.{RecoverReply}
@@ -57,9 +59,10 @@ recover-tidy img len =
     place : ℕ
     place = firstLog img .place
 
-    replays : Sound (recordsOf img) (logAt img place) → Tidy 0 (length (replayEntries img place)) (replayEntries img place)
+    replays : Sound (recordsOf img) (logAt img place) → Tidy 0 (recoverLength (countOf (logAt img place))) (replayEntries img place)
     replays h =
-        tidy-list (replayEntries img place)
+        tidy-list _ (replayEntries img place)
+        (recover-formula (countOf (logAt img place)) (h .at-least) (h .at-most) ∙ sym (recover-length img place))
         (omega (arith, recover-length img place, h .at-most))
         (once-group (denoted (logAt img place)) (store (slotAt (recordsOf img) place) 0 ∷ fence ∷ [])
         (homes-distinct (recOf (logAt img place)) (wordsOf (logAt img place)) (countOf (logAt img place)) (h .differ)) refl)

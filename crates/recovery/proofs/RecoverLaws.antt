@@ -10,6 +10,7 @@ use Rattle.layout.specs.Checks.{unless, first}
 use Rattle.layout.proofs.ChecksLaws.{first-both, unless-zero, answered-zero, answered-not}
 use Rattle.layout.specs.Entries.{Entry, store, fence, stores}
 use Rattle.layout.specs.Image.{recordsOf, sessionsOf, shapedB, homeAt, slotAt, slotWord, persistAt}
+use Rattle.journal.specs.Lengths.{recoverLength}
 use Rattle.journal.specs.Log.{Slot, countOf, recOf, wordsOf}
 use Rattle.layout.specs.Homes.{homesWrites}
 use Rattle.layout.specs.Oldest.{oldestOf}
@@ -24,7 +25,7 @@ use Rattle.layout.specs.Checks.{roomFor}
 use Rattle.recovery.specs.Recover.{slotsOf, recoverFault, firstLog, cleanB, recoverEntries, recoverRefused, recoverReply}
 use Rattle.recovery.specs.declared.recovering.RecoverAnswer.the-variants.{Clean, Replayed}
 use Rattle.recovery.specs.declared.recovering.RecoverReply.{RecoverReply}
-use Rattle.recovery.proofs.Lists.{recover-length, taken-sound, recover-tidy}
+use Rattle.recovery.proofs.Lists.{taken-sound, recover-tidy}
 
 -- what recover answers, and what it lists
 pub record Recovers (img : List ℕ) (len : ℕ) (reply : RecoverReply) (entries : List Entry) : Type 0 where
@@ -116,7 +117,7 @@ module _ {img : List ℕ} {len n : ℕ} {b : Oldest} (f : Found img len n b) whe
     -- the log is replayed
     pub recover-replays : (copies : List RecordCopy) (count slot : ℕ)
         → CopiesOf (slotWord img n (b .place)) copies → count ≡ countOf (slotWord img n (b .place)) → slot ≡ slotAt n (b .place)
-        → Recovers img len (record { answer = Replayed (b .number); entries = 4 * count + 3 })
+        → Recovers img len (record { answer = Replayed (b .number); entries = recoverLength count })
         (stores (homesWrites (λ j. getD copies j noCopy .rec) (λ j. getD copies j noCopy .words) count) ++ (fence ∷ store slot 0 ∷ fence ∷ []))
     unfolding recoverReply recoverEntries
     recover-replays copies count slot h e i =
@@ -125,6 +126,6 @@ module _ {img : List ℕ} {len n : ℕ} {b : Oldest} (f : Found img len n b) whe
         (λ j. getD copies j noCopy .words) (wordsOf (slotWord img n (b .place))) count
         (λ j l. let k = h j (omega (arith, taken .few)) in (ap (λ (c : RecordCopy). c .rec) k, ap (λ (c : RecordCopy). c .words) k)) in
         record {
-          replies = answered-zero _ (recoverRefused img) _ (f .passed) ∙ rw (occupied, recover-length, e, f .log, f .records);
+          replies = answered-zero _ (recoverRefused img) _ (f .passed) ∙ rw (occupied, e, f .log, f .records);
           lists = answered-zero _ (λ _. []) _ (f .passed) ∙ rw (occupied, w, e, i, f .log, f .records);
         }

@@ -4,13 +4,13 @@
 use Prim.Native.Nat.{ℕ, _*_}
 use mathlib.Core.Bool.{Bool, not, cond}
 use mathlib.Core.List.{List, [], _∷_, _++_}
-use lib.ListN.{length}
 use lib.Dec.{eqb}
 use Rattle.layout.specs.Below.{anyBelow, lowest}
 use Rattle.layout.specs.Checks.{unless, first, answered}
 use Rattle.layout.specs.Entries.{Entry, store, fence, stores}
 use Rattle.layout.specs.Image.{recordsOf, sessionsOf, shapedB, slotAt, slotWord, persistAt}
-use Rattle.journal.specs.Log.{Slot, denoted, unsoundB, tiedB}
+use Rattle.journal.specs.Lengths.{recoverLength}
+use Rattle.journal.specs.Log.{Slot, countOf, denoted, unsoundB, tiedB}
 use Rattle.layout.specs.Oldest.{oldestOf}
 use Rattle.layout.specs.declared.oldest.Oldest.{Oldest}
 use Rattle.layout.specs.Checks.{roomFor}
@@ -59,11 +59,12 @@ unfoldable pub recoverRefused : List ℕ → ℕ → RecoverReply
 recoverRefused img k =
     cond (eqb k 12) (record { answer = Unsound (unsoundPlace img); entries = 0 }) (record { answer = Refused k; entries = 0 })
 
+-- the number of entries is the table's, by the number of copies in the log
 abbrev pub recoverDone : List ℕ → RecoverReply
 recoverDone img =
     cond (cleanB img)
     (record { answer = Clean; entries = 0 })
-    (record { answer = Replayed (firstLog img .number); entries = length (replayEntries img (firstLog img .place)) })
+    (record { answer = Replayed (firstLog img .number); entries = recoverLength (countOf (logAt img (firstLog img .place))) })
 
 unfoldable pub recoverReply : List ℕ → ℕ → RecoverReply
 recoverReply img len = answered (recoverFault img len) (recoverRefused img) (recoverDone img)

@@ -134,6 +134,6 @@ pub fn recover(image: &mut [u64], trace: &mut [u64]) -> RecoverReply
     layout::put_fence(trace, c);
     RecoverReply {
         answer: RecoverAnswer::Replayed(persist),
-        entries: 4 * count + 3,
+        entries: journal::recover_length(count),
     }
 }

@@ -58,8 +58,8 @@ returns-2 c = finished (finish-shut _ _ _ _ (passed (c .before .before .before .
 idle-session-requires : tie.Need-idle-session-requires
 idle-session-requires c κs = search needs
 
-mul-t32 : tie.Need-mul-t32
-mul-t32 c = omega (arith, fits (c .before .before .before .before .before .before) .small)
+mul-t33 : tie.Need-mul-t33
+mul-t33 c = omega (arith, fits (c .before .before .before .before .before .before) .small)
 
 element-set-from-desk : tie.Need-element-set-from-desk
 element-set-from-desk c = fits (c .before .before .before .before .before .before) .small
@@ -100,17 +100,14 @@ write-log-requires c κs = omega (arith, fits (c .before .before .before .before
 with-phase-requires : tie.Need-with-phase-requires
 with-phase-requires c κs = search needs
 
-mul-t41 : tie.Need-mul-t41
-mul-t41 c = omega (arith, fits (c .before .before .before .before .before .before .before .before .before .before .before .before .before .before .before .before) .small)
+mul-t42 : tie.Need-mul-t42
+mul-t42 c = omega (arith, fits (c .before .before .before .before .before .before .before .before .before .before .before .before .before .before .before .before) .small)
 
 element-set-from-desk-2 : tie.Need-element-set-from-desk-2
 element-set-from-desk-2 c = fits (c .before .before .before .before .before .before .before .before .before .before .before .before .before .before .before .before) .small
 
-mul-gives : tie.Need-mul-gives
-mul-gives c = omega (arith, fits (c .before .before .before .before .before .before .before .before .before .before .before .before .before .before .before .before) .count-high)
-
-add-gives : tie.Need-add-gives
-add-gives c = omega (arith, fits (c .before .before .before .before .before .before .before .before .before .before .before .before .before .before .before .before) .count-high)
+finish-length-requires : tie.Need-finish-length-requires
+finish-length-requires c κs = search needs
 
 gives-requires-4 : tie.Need-gives-requires-4
 gives-requires-4 c κs = search needs
@@ -123,11 +120,11 @@ same-length-5 c = search needs
 
 returns-4 : tie.Need-returns-4
 returns-4 c =
-    let a = (c .before .before .before .before .before .before .before .before .before .before .before .before .before .before .before .before .before .before .before .before .before .before .before) .args in
-    let from = (c .before .before .before .before .before .before .before .before .before .before) .slot-at .ensures in
-    let w = (c .before .before .before .before .before .before) .write-log .ensures in
-    finished (finish-sealed _ _ _ _ (passed (c .before .before .before .before .before .before .before .before .before .before .before .before .before .before .before .before .before)) (sym (shut (c .before .before .before .before .before .before .before .before .before .before .before .before .before .before)) ∙ (c .before .before .before .before .before .before .before .before .before .before .before .before .before) .if2 .left) ((c .before .before .before .before .before .before .before .before .before .before .before .before) .if3 .left)) _
-    (rw ((c .before) .with-phase .ensures) at (c .gives4 .ensures))
+    let a = (c .before .before .before .before .before .before .before .before .before .before .before .before .before .before .before .before .before .before .before .before .before .before .before .before) .args in
+    let from = (c .before .before .before .before .before .before .before .before .before .before .before) .slot-at .ensures in
+    let w = (c .before .before .before .before .before .before .before) .write-log .ensures in
+    finished (finish-sealed _ _ _ _ (passed (c .before .before .before .before .before .before .before .before .before .before .before .before .before .before .before .before .before .before)) (sym (shut (c .before .before .before .before .before .before .before .before .before .before .before .before .before .before .before)) ∙ (c .before .before .before .before .before .before .before .before .before .before .before .before .before .before) .if2 .left) ((c .before .before .before .before .before .before .before .before .before .before .before .before .before) .if3 .left)) _
+    (rw ((c .before .before) .with-phase .ensures, (c .before) .finish-length .ensures) at (c .gives4 .ensures))
     (sealed-image (a .t2) (a .session) _ from (a .image .now) _ (w .0))
     (sealed-trace (a .t2) (a .session) _ from (a .trace .now) _ (w .1))
 
@@ -148,7 +145,7 @@ finish-spec =
     same-length-2
     returns-2
     idle-session-requires
-    mul-t32
+    mul-t33
     element-set-from-desk
     gives-requires-3
     same-length-3
@@ -162,10 +159,9 @@ finish-spec =
     part-write-log-end
     write-log-requires
     with-phase-requires
-    mul-t41
+    mul-t42
     element-set-from-desk-2
-    mul-gives
-    add-gives
+    finish-length-requires
     gives-requires-4
     same-length-4
     same-length-5

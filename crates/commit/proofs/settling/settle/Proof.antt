@@ -141,11 +141,8 @@ mul-t24 c = omega (arith, facts (c .before .before .before .before .before .befo
 element-set-from-desk : tie.Need-element-set-from-desk Inv-loop μ-loop
 element-set-from-desk c = facts (c .before .before .before .before .before .before .before .before .before .before .before .before .before .before .before .before .before .before .before .before .before .before .before) .small
 
-mul-answers : tie.Need-mul-answers Inv-loop μ-loop
-mul-answers c = omega (arith, few (c .before .before .before .before .before .before .before .before .before .before .before .before .before .before .before .before .before .before .before .before .before .before .before))
-
-add-answers : tie.Need-add-answers Inv-loop μ-loop
-add-answers c = omega (arith, few (c .before .before .before .before .before .before .before .before .before .before .before .before .before .before .before .before .before .before .before .before .before .before .before))
+settle-length-requires : tie.Need-settle-length-requires Inv-loop μ-loop
+settle-length-requires c κs = search needs
 
 answers-requires-4 : tie.Need-answers-requires-4 Inv-loop μ-loop
 answers-requires-4 c κs = search needs
@@ -159,12 +156,12 @@ same-length-5 c = search needs
 returns-4 : tie.Need-returns-4 Inv-loop μ-loop
 unfolding oldestReader
 returns-4 c =
-    let e : (c .before .before .before .before .before .before .before .before .before .before .before .before .before .before .before .before .before .before .before) .loop .t ≡ 16 = omega (arith, (c .before .before .before .before .before .before .before .before .before .before .before .before .before .before .before .before .before .before .before) .loop .inv .0, (c .before .before .before .before .before .before .before .before .before .before .before .before .before .before .before .before .before .before) .loop-test .left) in
-    let a = (c .before .before .before .before .before .before .before .before .before .before .before .before .before .before .before .before .before .before .before .before .before .before .before .before .before .before .before .before .before .before) .args in
-    let g = settle-stores (a .image .now) (a .t2) (length (a .trace .now)) (a .session) (passed (c .before .before .before .before .before .before .before .before .before .before .before .before .before .before .before .before .before .before .before .before .before .before .before .before)) (sym ((c .before .before .before .before .before .before .before .before .before .before .before .before .before .before .before .before .before .before .before .before .before .before) .is-published .ensures) ∙ not-false _ ((c .before .before .before .before .before .before .before .before .before .before .before .before .before .before .before .before .before .before .before .before .before) .if2 .left)) ((c .before .before .before .before .before .before .before .before .before .before .before .before .before .before .before .before .before .before .before) .loop .reader) (rw e at ((c .before .before .before .before .before .before .before .before .before .before .before .before .before .before .before .before .before .before .before) .loop .inv .1)) ((c .before .before .before .before .before .before .before .before .before .before .before .before .before .before .before .before) .if3 .left) in
+    let e : (c .before .before .before .before .before .before .before .before .before .before .before .before .before .before .before .before .before .before .before .before) .loop .t ≡ 16 = omega (arith, (c .before .before .before .before .before .before .before .before .before .before .before .before .before .before .before .before .before .before .before .before) .loop .inv .0, (c .before .before .before .before .before .before .before .before .before .before .before .before .before .before .before .before .before .before .before) .loop-test .left) in
+    let a = (c .before .before .before .before .before .before .before .before .before .before .before .before .before .before .before .before .before .before .before .before .before .before .before .before .before .before .before .before .before .before .before) .args in
+    let g = settle-stores (a .image .now) (a .t2) (length (a .trace .now)) (a .session) (passed (c .before .before .before .before .before .before .before .before .before .before .before .before .before .before .before .before .before .before .before .before .before .before .before .before .before)) (sym ((c .before .before .before .before .before .before .before .before .before .before .before .before .before .before .before .before .before .before .before .before .before .before .before) .is-published .ensures) ∙ not-false _ ((c .before .before .before .before .before .before .before .before .before .before .before .before .before .before .before .before .before .before .before .before .before .before) .if2 .left)) ((c .before .before .before .before .before .before .before .before .before .before .before .before .before .before .before .before .before .before .before .before) .loop .reader) (rw e at ((c .before .before .before .before .before .before .before .before .before .before .before .before .before .before .before .before .before .before .before .before) .loop .inv .1)) ((c .before .before .before .before .before .before .before .before .before .before .before .before .before .before .before .before .before) .if3 .left) in
     settle-tells _ _ _ _ (
-      c .answers4 .ensures ∙ rw ((c .before) .idle-session .ensures, (c .before .before) .unmark .ensures) (sym (g .replies)),
-      stored-run _ (g .lists) (and-then ((c .before .before .before .before .before .before .before .before .before .before .before .before) .put-homes .ensures .0) (fenced ((c .before .before .before .before .before .before) .put-fence .ensures))) (omega (arith, settle-length (a .t2) (a .session), few (c .before .before .before .before .before .before .before .before .before .before .before .before .before .before .before .before .before .before .before .before .before .before .before .before), room (c .before .before .before .before .before .before .before .before .before .before .before .before .before .before .before .before .before .before .before .before .before .before .before .before))),
+      c .answers4 .ensures ∙ rw ((c .before) .settle-length .ensures, (c .before .before) .idle-session .ensures, (c .before .before .before) .unmark .ensures) (sym (g .replies)),
+      stored-run _ (g .lists) (and-then ((c .before .before .before .before .before .before .before .before .before .before .before .before .before) .put-homes .ensures .0) (fenced ((c .before .before .before .before .before .before .before) .put-fence .ensures))) (omega (arith, settle-length (a .t2) (a .session), few (c .before .before .before .before .before .before .before .before .before .before .before .before .before .before .before .before .before .before .before .before .before .before .before .before .before), room (c .before .before .before .before .before .before .before .before .before .before .before .before .before .before .before .before .before .before .before .before .before .before .before .before .before))),
     )
 
 pub settle-spec : {M : Type 1} → statement M
@@ -202,8 +199,7 @@ settle-spec =
     idle-session-requires
     mul-t24
     element-set-from-desk
-    mul-answers
-    add-answers
+    settle-length-requires
     answers-requires-4
     same-length-4
     same-length-5

@@ -89,11 +89,8 @@ put-store-requires c κs =
 put-fence-requires-2 : tie.Need-put-fence-requires-2
 put-fence-requires-2 c κs = let t = log (c .before .before .before .before .before .before .before .before .before .before .before .before .before .before .before .before .before .before .before .before .before .before .before .before) in omega (arith, (c .before .before .before .before .before .before .before .before .before .before .before .before .before .before .before .before .before .before .before .before .before .before) .log-count .ensures, t .few, t .room)
 
-mul-t27 : tie.Need-mul-t27
-mul-t27 c = search needs
-
-add-t24 : tie.Need-add-t24
-add-t24 c = search needs
+recover-length-requires : tie.Need-recover-length-requires
+recover-length-requires c κs = search needs
 
 same-length-3 : tie.Need-same-length-3
 same-length-3 c = search needs
@@ -103,18 +100,18 @@ same-length-4 c = search needs
 
 returns-3 : tie.Need-returns-3
 returns-3 c =
-    let s = c .before .before .before .before .before .before .before .before .before .before .before .before .before .before .before .before .before .before .before .before .before .before in
+    let s = c .before .before .before .before .before .before .before .before .before .before .before .before .before .before .before .before .before .before .before .before .before .before .before in
     let o = s .before .before .before .before .before in
     let g =
     recover-replays (oldest (o .before)) (o .if2 .left)
     (s .before .log-copies .result) (s .before .before .before .log-count .result) (s .slot-at .result)
     (s .before .log-copies .ensures) (s .before .before .before .log-count .ensures) (s .slot-at .ensures) in
     let d =
-    and-then (c .before .before .before .before .before .before .before .before .before .before .before .before .before .before .before .before .before .before .before .put-homes .ensures .0)
-    (and-then (fenced (c .before .before .before .before .before .before .before .before .before .before .before .before .before .put-fence .ensures))
-    (and-then (c .before .before .before .before .before .before .before .before .put-store .ensures)
-    (fenced (c .before .before .put-fence2 .ensures)))) in
-    recover-tells _ _ (sym (g .replies), stored-run _ (g .lists) d (recover-fits g (log o .room)))
+    and-then (c .before .before .before .before .before .before .before .before .before .before .before .before .before .before .before .before .before .before .before .before .put-homes .ensures .0)
+    (and-then (fenced (c .before .before .before .before .before .before .before .before .before .before .before .before .before .before .put-fence .ensures))
+    (and-then (c .before .before .before .before .before .before .before .before .before .put-store .ensures)
+    (fenced (c .before .before .before .put-fence2 .ensures)))) in
+    recover-tells _ _ (rw (c .recover-length .ensures) (sym (g .replies)), stored-run _ (g .lists) d (recover-fits g (log o .room)))
 
 pub recover-spec : {M : Type 1} → statement M
 recover-spec =
@@ -137,8 +134,7 @@ recover-spec =
     put-fence-requires
     put-store-requires
     put-fence-requires-2
-    mul-t27
-    add-t24
+    recover-length-requires
     same-length-3
     same-length-4
     returns-3)
