@@ -1,8 +1,9 @@
-// The number of entries that finish, settle and recover list: the technician's table, by the number of copies.
+// The number of entries that finish, settle and recover list: the technician's table, by the number of copies, 1 to 4. 0 for any other
+// number, of which there is no list.
 ghost use mathlib.Core.Path.{_≡_};
 ghost use Rattle.journal.specs.Lengths.{finishLength, settleLength, recoverLength};
 
-// 5c + 4 entries for c copies.
+// c copies: 5c + 4.
 pub fn finish_length(copies: u64) -> u64
     ensures { λ r. ⌜ r ≡ finishLength copies ⌝ }
 {
@@ -15,7 +16,7 @@ pub fn finish_length(copies: u64) -> u64
     }
 }
 
-// 4c + 1 entries for c copies.
+// c copies: 4c + 1.
 pub fn settle_length(copies: u64) -> u64
     ensures { λ r. ⌜ r ≡ settleLength copies ⌝ }
 {
@@ -28,7 +29,7 @@ pub fn settle_length(copies: u64) -> u64
     }
 }
 
-// 4c + 3 entries for c copies.
+// c copies: 4c + 3.
 pub fn recover_length(copies: u64) -> u64
     ensures { λ r. ⌜ r ≡ recoverLength copies ⌝ }
 {
