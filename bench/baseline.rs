@@ -15,6 +15,10 @@ const TRACE_WORDS: usize = 48;
 const FENCE: u64 = u64::MAX;
 const L: u64 = 1 << 62;
 
+/// The header's word 3: no number above it is given. A raise puts it this far above the clock.
+const CEILING: usize = 3;
+const AHEAD: u64 = 1024;
+
 type Words = [u64; 4];
 
 fn in_range(n: u64, m: u64) -> bool {
@@ -80,6 +84,11 @@ struct Trace {
 }
 
 impl Trace {
+    /// Check 3.
+    fn roomy(&self) -> bool {
+        self.words.len() >= TRACE_WORDS
+    }
+
     fn list(&mut self, index: u64, word: u64) {
         let at = 2 * self.entries;
         self.words[at..at + 2].copy_from_slice(&[index, word]);
@@ -286,10 +295,10 @@ impl<const CHECKS: bool> Store<CHECKS> {
             if takes >= Takes::Image && !shaped(&self.image) {
                 return Err(1);
             }
-            if !self.desk.coherent() || (takes >= Takes::Image && !self.has_sizes_of_header()) {
+            if !self.desk.coherent() || (takes >= Takes::Image && !self.fits_header()) {
                 return Err(2);
             }
-            if takes == Takes::Trace && self.trace.words.len() < TRACE_WORDS {
+            if takes == Takes::Trace && !self.trace.roomy() {
                 return Err(3);
             }
         }
@@ -300,8 +309,16 @@ impl<const CHECKS: bool> Store<CHECKS> {
         }
     }
 
-    fn has_sizes_of_header(&self) -> bool {
-        self.image[1] == self.desk.n as u64 && self.image[2] == self.desk.m as u64
+    /// The part of check 2 that looks at the image's header.
+    fn fits_header(&self) -> bool {
+        let Desk { clock, n, m, .. } = self.desk;
+        self.image[1] == n as u64 && self.image[2] == m as u64 && clock <= self.image[CEILING]
+    }
+
+    /// Stores a ceiling above the clock.
+    fn raise(&mut self) {
+        self.trace.store(&mut self.image, CEILING, self.desk.clock + AHEAD);
+        self.trace.fence();
     }
 
     fn lay(&mut self, n: usize, m: usize) -> Reply<'static> {
@@ -318,14 +335,22 @@ impl<const CHECKS: bool> Store<CHECKS> {
 
     fn open(&mut self) -> Reply<'static> {
         self.desk = Desk::new(0, 0, 0);
+        self.trace.entries = 0;
         if CHECKS && !shaped(&self.image) {
             return Err(1);
         }
-        let (n, m) = (self.image[1] as usize, self.image[2] as usize);
+        if CHECKS && !self.trace.roomy() {
+            return Err(3);
+        }
+        let (n, m, ceiling) = (self.image[1] as usize, self.image[2] as usize, self.image[CEILING]);
         if oldest(&self.image, n, 0..2 * m).is_some() {
             return Err(11);
         }
-        (self.desk.clock, self.desk.n, self.desk.m) = (1, n, m);
+        if ceiling >= L {
+            return Err(10);
+        }
+        (self.desk.clock, self.desk.n, self.desk.m) = (ceiling + 1, n, m);
+        self.raise();
         Ok(Answer::Ok)
     }
 
@@ -338,11 +363,14 @@ impl<const CHECKS: bool> Store<CHECKS> {
     }
 
     fn publish(&mut self, session: usize) -> Reply<'static> {
-        self.enter(Takes::Desk, session)?;
+        self.enter(Takes::Trace, session)?;
         let own = &mut self.desk.sessions[session];
         let Phase::Sealed(_) = own.phase else { return Err(6) };
         self.desk.clock += 1;
         own.phase = Phase::Published(self.desk.clock);
+        if self.desk.clock > self.image[CEILING] {
+            self.raise();
+        }
         Ok(Answer::End(self.desk.clock))
     }
 
@@ -475,7 +503,7 @@ impl<const CHECKS: bool> Store<CHECKS> {
         if CHECKS && !shaped(&self.image) {
             return Err(1);
         }
-        if CHECKS && self.trace.words.len() < TRACE_WORDS {
+        if CHECKS && !self.trace.roomy() {
             return Err(3);
         }
         let (image, trace) = (&mut self.image, &mut self.trace);
@@ -752,7 +780,7 @@ impl<const CHECKS: bool> Walk<CHECKS> {
                 out.line(i, b" write", [s.into(), r.into()], reply)?
             }
             [4, s] => self.storing(b" finish", s, Store::finish, out)?,
-            [5, s] => out.line(i, b" publish", [s.into()], store.publish(s.into()))?,
+            [5, s] => self.storing(b" publish", s, Store::publish, out)?,
             [6, s] => self.storing(b" settle", s, Store::settle, out)?,
             [7, s] => self.storing(b" reclaim", s, Store::reclaim, out)?,
             [8, s] => out.line(i, b" abandon", [s.into()], store.abandon(s.into()))?,
@@ -782,7 +810,7 @@ impl<const CHECKS: bool> Walk<CHECKS> {
         Ok(goes_on)
     }
 
-    /// A step that stores; with a cut to come, only the first entries arrive and the desk is lost.
+    /// A step that may store; with a cut to come, only the first entries arrive and the desk is lost.
     #[inline(always)]
     fn storing<const K: usize, W: Write>(
         &mut self,
@@ -1004,10 +1032,10 @@ mod tests {
             |store| refusal(store.finish(1)),
             |store| refusal(store.settle(3)),
             |store| refusal(store.reclaim(3)),
+            |store| refusal(store.publish(2)),
             |store| refusal(store.read(1, 4)),
             |store| refusal(store.write(1, 5, &[0; 4])),
             |store| refusal(store.begin(4)),
-            |store| refusal(store.publish(2)),
             |store| refusal(store.abandon(1)),
         ]
     }
@@ -1023,7 +1051,7 @@ mod tests {
     #[test]
     fn checks_1_to_3_of_every_call() {
         assert_eq!(refusals(|_| {}), [0; 8]);
-        let image = [1, 1, 1, 1, 1, 0, 0, 0];
+        let image = [1, 1, 1, 1, 1, 1, 0, 0];
         assert_eq!(refusals(|store| store.image.truncate(315)), image);
         assert_eq!(refusals(|store| store.image.push(0)), image);
         assert_eq!(refusals(|store| store.image.clear()), image);
@@ -1040,10 +1068,12 @@ mod tests {
             );
         }
         assert_eq!(refusals(|store| store.desk.marks[5] = 1), [2; 8]);
-        let sizes = [2, 2, 2, 2, 2, 0, 0, 0];
-        assert_eq!(refusals(|store| store.desk.n = 13), sizes);
-        assert_eq!(refusals(|store| store.desk.m = 7), sizes);
-        assert_eq!(refusals(|store| store.trace.words.truncate(47)), [3, 3, 3, 0, 0, 0, 0, 0]);
+        let header = [2, 2, 2, 2, 2, 2, 0, 0];
+        assert_eq!(refusals(|store| store.desk.n = 13), header);
+        assert_eq!(refusals(|store| store.desk.m = 7), header);
+        assert_eq!(refusals(|store| store.image[CEILING] = 8), header);
+        assert_eq!(refusals(|store| store.image[CEILING] = 9), [0; 8]);
+        assert_eq!(refusals(|store| store.trace.words.truncate(47)), [3, 3, 3, 3, 0, 0, 0, 0]);
     }
 
     #[test]
@@ -1051,12 +1081,13 @@ mod tests {
         let mut store = busy();
         assert_eq!(refusal(store.read(6, 12)), 4);
         assert_eq!(refusal(store.read(4, 12)), 5);
+        assert_eq!([refusal(store.publish(6)), refusal(store.publish(4))], [4, 6]);
         store.trace.words.truncate(47);
-        assert_eq!(refusal(store.finish(6)), 3);
+        assert_eq!([refusal(store.finish(6)), refusal(store.publish(6))], [3; 2]);
         store.desk.marks[5] = 1;
-        assert_eq!(refusal(store.finish(6)), 2);
+        assert_eq!([refusal(store.finish(6)), refusal(store.publish(6))], [2; 2]);
         store.image[0] = 0;
-        assert_eq!(refusal(store.finish(6)), 1);
+        assert_eq!([refusal(store.finish(6)), refusal(store.publish(6)), refusal(store.open())], [1; 3]);
         assert_eq!(store.recover(), Err(1));
     }
 
@@ -1105,8 +1136,51 @@ mod tests {
         }
         store.trace.words.truncate(47);
         assert_eq!(store.recover(), Err(3));
+        assert_eq!(refusal(store.open()), 3);
         store.trace.words.push(0);
         assert_eq!([(); 3].map(|_| store.recover()), [Ok(Some(7)), Ok(Some(7)), Ok(None)]);
+    }
+
+    fn entries<const CHECKS: bool>(store: &Store<CHECKS>) -> &[u64] {
+        &store.trace.words[..2 * store.trace.entries]
+    }
+
+    #[test]
+    fn open_raises_the_ceiling() {
+        let opened = |ceiling: u64| {
+            let mut store = Store::<true>::new(length(2, 2));
+            store.lay(2, 2).expect("laid");
+            assert_eq!(store.image[CEILING], 0);
+            store.image[CEILING] = ceiling;
+            let refused = refusal(store.open());
+            (refused, store.desk.clock, store.desk.n, store.image[CEILING], entries(&store).to_vec())
+        };
+        assert_eq!(opened(0), (0, 1, 2, 1025, vec![3, 1025, FENCE, 0]));
+        assert_eq!(opened(1025), (0, 1026, 2, 2050, vec![3, 2050, FENCE, 0]));
+        assert_eq!(opened(L - 1), (0, L, 2, L + 1024, vec![3, L + 1024, FENCE, 0]));
+        assert_eq!(opened(L), (10, 0, 0, L, vec![]));
+        assert_eq!(opened(u64::MAX), (10, 0, 0, u64::MAX, vec![]));
+        let mut store = busy();
+        store.image[CEILING] = L;
+        store.finish(1).expect("sealed");
+        assert_eq!((refusal(store.open()), store.trace.entries), (11, 0));
+        while let Ok(Some(_)) = store.recover() {}
+        assert_eq!((refusal(store.open()), store.image[CEILING]), (10, L));
+    }
+
+    #[test]
+    fn publish_raises_the_ceiling_when_it_passes_it() {
+        let published = |clock: u64, ceiling: u64| {
+            let mut store = busy();
+            (store.desk.clock, store.image[CEILING]) = (clock, ceiling);
+            let refused = refusal(store.publish(2));
+            (refused, store.desk.clock, store.image[CEILING], entries(&store).to_vec())
+        };
+        assert_eq!(published(9, 11), (0, 10, 11, vec![]));
+        assert_eq!(published(9, 10), (0, 10, 10, vec![]));
+        assert_eq!(published(9, 9), (0, 10, 1034, vec![3, 1034, FENCE, 0]));
+        assert_eq!(published(9, 8), (2, 9, 8, vec![]));
+        assert_eq!(published(L + 15, L + 15), (0, L + 16, L + 1040, vec![3, L + 1040, FENCE, 0]));
     }
 
     #[test]
@@ -1120,18 +1194,63 @@ mod tests {
         }
     }
 
+    /// The lines that both ways give.
+    fn lines(steps: &[u8]) -> String {
+        let (mut checks, mut trust) = (Vec::new(), Vec::new());
+        run::<true>(steps, &mut checks).expect("written");
+        run::<false>(steps, &mut trust).expect("written");
+        assert_eq!(checks, trust);
+        String::from_utf8(checks).expect("text")
+    }
+
+    /// The bytes of begin, write and finish of record 0.
+    fn sealing(session: u8) -> Vec<u8> {
+        [&[1, session, 3, session, 0], &[5; 32][..], &[4, session]].concat()
+    }
+
     #[test]
     fn whole_case() {
         let mut steps = vec![0, 2, 2, 1, 0, 1, 1, 3, 0, 1, 5];
         steps.extend([0; 31]);
         steps.extend([2, 0, 1, 4, 0, 5, 0, 2, 1, 1, 6, 0, 4, 1, 6, 0, 7, 0]);
-        let lines = "1 lay 2 2 ok\n2 begin 0 start 1\n3 begin 1 start 1\n4 write 0 1 ok\n5 read 0 1 5 0 0 0 own\n\
+        let wanted = "1 lay 2 2 ok\n2 begin 0 start 1\n3 begin 1 start 1\n4 write 0 1 ok\n5 read 0 1 5 0 0 0 own\n\
             6 finish 0 sealed 1\n7 publish 0 end 2\n8 read 1 1 0 0 0 0 home\n9 settle 0 wait 1\n10 finish 1 empty\n\
             11 settle 0 ok\n12 reclaim 0 cleared 1\n";
-        let (mut checks, mut trust) = (Vec::new(), Vec::new());
-        run::<true>(&steps[..], &mut checks).expect("written");
-        run::<false>(&steps[..], &mut trust).expect("written");
-        assert_eq!(String::from_utf8_lossy(&checks), lines);
-        assert_eq!(checks, trust);
+        assert_eq!(lines(&steps), wanted);
+    }
+
+    #[test]
+    fn numbers_go_on_behind_a_cut() {
+        let wanted = "1 lay 1 1 ok\n2 cut 0\n3 finish 0 no 6\n3 open\n4 begin 0 start 1026\n5 cut 9\n\
+            6 reclaim 0 none\n6 open\n7 begin 0 start 2051\n";
+        assert_eq!(lines(&[0, 1, 1, 9, 0, 4, 0, 1, 0, 9, 9, 7, 0, 1, 0]), wanted);
+    }
+
+    #[test]
+    fn a_cut_waits_for_publish_too() {
+        let steps = [&[0, 1, 1, 9, 0, 5, 0], &sealing(0)[..], &[9, 0, 5, 0, 1, 0]].concat();
+        let wanted = "1 lay 1 1 ok\n2 cut 0\n3 publish 0 no 6\n3 open\n4 begin 0 start 1026\n5 write 0 0 ok\n\
+            6 finish 0 sealed 1026\n7 cut 0\n8 publish 0 end 1027\n8 replayed 1026\n8 open\n9 begin 0 start 2051\n";
+        assert_eq!(lines(&steps), wanted);
+    }
+
+    #[test]
+    fn the_1025th_publish_raises_the_ceiling() {
+        let whole = [&sealing(0)[..], &[5, 0, 6, 0, 7, 0]].concat();
+        let before = [&[0, 1, 1], &whole.repeat(1024)[..], &sealing(0)].concat();
+        let behind = |steps: &[u8]| {
+            let all = lines(&[&before, steps].concat());
+            let at = all.find("6148 finish 0 sealed 1025\n").expect("sealed");
+            all[at..].split_once('\n').expect("a line").1.to_string()
+        };
+        for (k, start) in [(0, 1026), (1, 2051), (2, 2051), (3, 2051)] {
+            let wanted = format!(
+                "6149 cut {k}\n6150 publish 0 cut\n6150 replayed 1025\n6150 open\n6151 begin 0 start {start}\n"
+            );
+            assert_eq!(behind(&[9, k, 5, 0, 1, 0]), wanted);
+        }
+        let uncut = "6149 publish 0 end 1026\n6150 cut 0\n6151 publish 0 no 6\n6151 replayed 1025\n6151 open\n\
+            6152 begin 0 start 2051\n";
+        assert_eq!(behind(&[5, 0, 9, 0, 5, 0, 1, 0]), uncut);
     }
 }

@@ -50,10 +50,10 @@ value goes with start, sealed, end, wait, held, cleared, replayed, metres, found
 copy and home, with ok of 11 (the words packed) and with reel (shelf, carrier,
 speed, seconds); unused fields are 0. Entries is their number; they stand at
 the front of the trace. The digests are of what the call leaves, refused or
-not; 0 where the call takes no such part (lay: image alone; begin, publish,
-abandon, 16: desk alone; open: image and the desk it gives; read, write, 13,
-14, 17, 19: image and desk; finish, settle, reclaim, 18: all three; recover:
-image and trace; 11, 12, 15: none).
+not; 0 where the call takes no such part (lay: image alone; begin, abandon,
+16: desk alone; open: image, trace and the desk it gives; read, write, 13, 14,
+17, 19: image and desk; finish, publish, settle, reclaim, 18: all three;
+recover: image and trace; 11, 12, 15: none).
 
 DIGEST of k words: d = k at first, then for each word w, with its parts
 w % 2**32 and then w // 2**32:
@@ -86,8 +86,8 @@ ANSWERS = ["ok", "start", "own", "copy", "home", "empty", "sealed", "end", "wait
            "found"]
 # Of the store's calls; for those of the libraries see like().
 WITH_DESK = STORE_CALLS[1:9]
-WITH_IMAGE = [c for c in STORE_CALLS if c not in ("begin", "publish", "abandon")]
-WITH_TRACE = ["finish", "settle", "reclaim", "recover"]
+WITH_IMAGE = [c for c in STORE_CALLS if c not in ("begin", "abandon")]
+WITH_TRACE = ["finish", "publish", "settle", "reclaim", "open", "recover"]
 WITH_RECORD = ["read", "write"]
 
 
@@ -113,7 +113,7 @@ def run(case, library=None):
     if call == "lay":
         return model.lay(case["N"], case["M"], image)
     if call == "open":
-        return model.open_image(image)
+        return model.open_image(image, trace)
     if call == "recover":
         return model.recover(image, trace)
     if call == "find":
@@ -271,10 +271,21 @@ def some_numbers(rng):
                         rng.getrandbits(64) or 1]) for _ in range(rng.randrange(1, 5))]
 
 
-def image_of(rng, n, m, slots):
-    """Header, home records, slots; header word 3 is anything."""
-    head = [1, n, m, some_word(rng)]
-    return head + [some_word(rng) for _ in range(4 * n)] + [w for slot in slots for w in slot]
+def some_ceiling(rng, clock):
+    """Header word 3 at or above a clock: at it, near it, as far above as a raise goes, at the edges."""
+    near = [clock, clock, clock + 1, clock + 2, clock + 1023, clock + 1024, clock + rng.randrange(1025)]
+    return max(clock, rng.choice(near + [L - 1, L, L + 1040, 2 ** 63, TOP, rng.getrandbits(64)]))
+
+
+def image_of(rng, n, m, slots, ceiling):
+    """Header with this in word 3, home records, slots."""
+    homes = [some_word(rng) for _ in range(4 * n)]
+    return [1, n, m, ceiling] + homes + [w for slot in slots for w in slot]
+
+
+def with_ceiling(case, ceiling):
+    """The case with this in header word 3."""
+    return dict(case, image=case["image"][:3] + [ceiling] + case["image"][4:])
 
 
 def some_image(rng, n, m, desk):
@@ -293,7 +304,7 @@ def some_image(rng, n, m, desk):
                 spoil_log(rng, n, slots[-1])
         else:
             slots.append(empty_words(rng))
-    return image_of(rng, n, m, slots)
+    return image_of(rng, n, m, slots, some_ceiling(rng, desk["clock"]))
 
 
 def wrong_image(rng, image):
@@ -366,7 +377,8 @@ def some_desk(rng, n, m):
 
 # ---- desks with a rule broken --------------------------------------------
 # Each function alters a desk and returns False where it cannot. The names of
-# the rules that are then broken stand in BREAKS.
+# the rules that are then broken stand in BREAKS. Header word 3 follows: it is
+# no lower than the clock, but where that is the rule to break.
 
 def pick(rng, desk, phases, least=0, most=4):
     """An entry below M in one of these phases with so many copies, or None."""
@@ -398,6 +410,10 @@ def clock_high(rng, desk):
 
 def clock_top(rng, desk):
     desk["clock"] = rng.choice([TOP, TOP - 15, 2 ** 63])
+
+
+def as_it_is(rng, desk):
+    """Word 3 is to break the rule."""
 
 
 def size_high(size):
@@ -568,6 +584,7 @@ BREAKS = {
     "clock zero": (zero("clock"), ["clock"]),
     "clock high": (clock_high, ["clock"]),
     "clock top": (clock_top, ["clock"]),
+    "clock above word 3": (as_it_is, ["ceiling"]),
     "N zero": (zero("N"), ["sizes"]),
     "N high": (size_high("N"), ["sizes"]),
     "M zero": (zero("M"), ["sizes"]),
@@ -602,19 +619,30 @@ BREAKS = {
     "sealed past M": (entry_past_m("sealed"), ["rest"]),
     "published past M": (entry_past_m("published"), ["rest"]),
 }
-NEED_IMAGE = ["N not the header's", "M not the header's", "same length"]
+NEED_IMAGE = ["N not the header's", "M not the header's", "same length", "clock above word 3"]
 
 
-def broken_desk(rng, desk, image, name):
-    """A copy of the desk with just these rules broken, or None."""
+def too_low(rng, clock):
+    """A word 3 below this clock."""
+    return rng.choice([0, clock - 1, clock - 1, rng.randrange(clock), max(0, clock - 1025)])
+
+
+def broken_case(rng, case, name):
+    """The case with just these rules broken by its desk, or by word 3; None where that cannot be."""
     alter, rules = BREAKS[name]
-    desk = copy.deepcopy(desk)
+    desk = copy.deepcopy(case["desk"])
     if alter(rng, desk) is False:
         return None
-    return desk if store.broken_rules(desk, image) == rules else None
+    case, clock = dict(case, desk=desk), desk["clock"]
+    if case["image"] is not None:
+        case = with_ceiling(case, too_low(rng, clock) if rules == ["ceiling"] else max(clock, case["image"][3]))
+    return case if store.broken_rules(desk, case["image"]) == rules else None
 
 
 # ---- scenes --------------------------------------------------------------
+
+TOO_SHORT, LONG_ENOUGH = [0, 1, 24, 46, 47, 47], [48, 48, 49, 50, 64]  # lengths of the trace
+
 
 def session_scene(rng, call, desk=None):
     """A session call with right image, coherent desk and arguments in range."""
@@ -625,7 +653,7 @@ def session_scene(rng, call, desk=None):
     if call in WITH_IMAGE:
         case["image"] = some_image(rng, n, m, desk)
     if call in WITH_TRACE:
-        case["trace"] = rng.choice([48, 48, 49, 50, 64])
+        case["trace"] = rng.choice(LONG_ENOUGH)
     if call in WITH_RECORD:
         held = [r for r in range(n) if desk["marks"][r] is not None]
         case["record"] = rng.choice(held) if held and rng.random() < 0.6 else rng.randrange(n)
@@ -654,15 +682,22 @@ def lay_scene(rng, aim):
     return case
 
 
-def open_scene(rng, aim):
+OPENED = [0, 0, 1, 2, 1025, 2 ** 32, L - 1026, L - 1025, L - 2, L - 1]  # word 3 of an image that can be opened
+USED_UP = [L, L, L + 1, L + 1024, 2 ** 63, TOP]  # and of one that is refused with 10
+
+
+def open_scene(rng, *wrong):
+    """Open with a cause for each of these of its refusals, and right otherwise."""
     case = blank("open")
     n, m = rng.choice(SIZES)
     slots = [empty_words(rng) for _ in range(2 * m)]
-    if aim == 11:
+    if 11 in wrong:
         for _ in range(rng.randrange(1, 4)):
             slots[rng.randrange(2 * m)][0] = rng.choice([1, 7, 2 ** 32, 2 ** 63, TOP])
-    case["image"] = image_of(rng, n, m, slots)
-    if aim == 1:
+    low = OPENED + [rng.randrange(L), rng.randrange(5000)]
+    case["image"] = image_of(rng, n, m, slots, rng.choice(USED_UP if 10 in wrong else low))
+    case["trace"] = rng.choice(TOO_SHORT if 3 in wrong else LONG_ENOUGH)
+    if 1 in wrong:
         case["image"] = wrong_image(rng, case["image"])
     return case
 
@@ -684,12 +719,12 @@ def recover_scene(rng, aim):
         other[0] = one[0]
         if aim == 13 and one[1] <= 4 and other[1] <= 4:  # and a record in common
             other[2 + 5 * rng.randrange(max(1, other[1]))] = one[2 + 5 * rng.randrange(max(1, one[1]))]
-    case["image"] = image_of(rng, n, m, slots)
+    case["image"] = image_of(rng, n, m, slots, rng.choice([0, 1025, some_word(rng), *USED_UP]))
     case["trace"] = rng.choice([48, 48, 49, 64])
     if aim == 1:
         case["image"] = wrong_image(rng, case["image"])
     if aim == 3 or (aim == 1 and rng.random() < 0.3):
-        case["trace"] = rng.choice([0, 1, 24, 46, 47, 47])
+        case["trace"] = rng.choice(TOO_SHORT)
     return case
 
 
@@ -716,12 +751,12 @@ def spoil(rng, case, number):
         case["image"] = wrong_image(rng, case["image"])
     elif number == 2:
         names = [name for name in BREAKS if call in WITH_IMAGE or name not in NEED_IMAGE]
-        desk = None
-        while desk is None:
-            desk = broken_desk(rng, case["desk"], case["image"], rng.choice(names))
-        case["desk"] = desk
+        found = None
+        while found is None:
+            found = broken_case(rng, case, rng.choice(names))
+        case.update(found)
     elif number == 3:
-        case["trace"] = rng.choice([0, 1, 24, 46, 47, 47])
+        case["trace"] = rng.choice(TOO_SHORT)
     elif number == 4:
         case["session"] = far(rng, case["desk"]["M"])
     elif number == 5:
@@ -737,11 +772,11 @@ def causes(call):
 # ---- cases by aim --------------------------------------------------------
 
 AIMS = {
-    "lay": ["ok", 1, 14], "open": ["ok", 1, 11], "begin": ["start", 2, 4, 6],
+    "lay": ["ok", 1, 14], "open": ["ok", 1, 3, 11, 10], "begin": ["start", 2, 4, 6],
     "read": ["own", "copy", "home", 1, 2, 4, 5, 6],
     "write": ["ok", 1, 2, 4, 5, 6, 7, 8, 9],
     "finish": ["sealed", "empty", 1, 2, 3, 4, 6, 10],
-    "publish": ["end", 2, 4, 6], "settle": ["ok", "wait", 1, 2, 3, 4, 6],
+    "publish": ["end", 1, 2, 3, 4, 6], "settle": ["ok", "wait", 1, 2, 3, 4, 6],
     "reclaim": ["none", "held", "cleared", 1, 2, 3, 4],
     "abandon": ["ok", 2, 4, 6], "recover": ["clean", "replayed", 1, 3, 12, 13],
 }
@@ -757,6 +792,18 @@ SETTLES = {
     "start at the end, ok": ("ok", lambda way, at_end: not way and at_end),
     "last session": ("wait", lambda way, at_end: way and way[0][1] == 15),
 }
+# Header word 3 by the desk's clock; below the clock the answer is 2.
+CEILINGS = {"word 3 is 0": lambda clock: 0, "word 3 is clock-1": lambda clock: clock - 1,
+            "word 3 is clock": lambda clock: clock, "word 3 is clock+1": lambda clock: clock + 1,
+            "word 3 is L-1": lambda clock: L - 1, "word 3 is L": lambda clock: L,
+            "word 3 is 2^63": lambda clock: 2 ** 63, "word 3 is 2^64-1": lambda clock: TOP}
+# Publish by how far word 3 is above the clock: at 0 it raises word 3.
+RAISES = {"raise": 0, "up to word 3": 1, "one below word 3": 2}
+OPEN_CHECKS, PUBLISH_CHECKS = [1, 3, 11, 10], [1, 2, 3, 4, 6]  # in the order in which they are made
+# What a clock above word 3 comes together with; 2 comes before all but 1.
+BESIDE = {"read": [1, 4, 5, 6], "write": [1, 4, 5, 6, 7, 8, 9], "finish": [1, 3, 4, 6, 10],
+          "publish": [1, 3, 4, 6], "settle": [1, 3, 4, 6], "reclaim": [1, 3, 4]}
+TRACES = [47, 48, 0, 64, 1, 2, 3, 4, 24, 46, 49, 63]  # one in each round
 # What each case in turn is aimed at.
 TURNS = ([(call, aim) for call in AIMS for aim in AIMS[call]]
          + [("break", name) for name in BREAKS]
@@ -765,7 +812,14 @@ TURNS = ([(call, aim) for call in AIMS for aim in AIMS[call]]
          + [(edge, call) for edge in CLOCKS for call in ("finish", "publish", "begin")]
          + [("largest", call) for call in WITH_IMAGE]
          + [("second slot", "write"), ("recover", "replayed")]
-         + [(kind, "settle") for kind in SETTLES])
+         + [(kind, "settle") for kind in SETTLES]
+         + [(name, call) for name in CEILINGS for call in WITH_DESK if call in WITH_IMAGE]
+         + [(word_3, call) for call in ("open", "recover") for word_3 in (0, 1, L - 1, L, L + 1, TOP)]
+         + [(("above word 3", number), call) for call in BESIDE for number in BESIDE[call]]
+         + [("open refused", pair) for pair in itertools.combinations(OPEN_CHECKS, 2)]
+         + [("publish refused", pair) for pair in itertools.combinations(PUBLISH_CHECKS, 2)]
+         + [(name, edge) for name in RAISES for edge in (None, *CLOCKS)]
+         + [("trace", call) for call in ("open", "publish")])
 
 
 def outcome(case):
@@ -796,9 +850,8 @@ def broken(rng, name):
     """A case refused by 2, with just this break."""
     calls = [c for c in WITH_DESK if c in WITH_IMAGE or name not in NEED_IMAGE]
     while True:
-        case = session_scene(rng, rng.choice(calls))
-        case["desk"] = broken_desk(rng, case["desk"], case["image"], name)
-        if case["desk"] is not None:
+        case = broken_case(rng, session_scene(rng, rng.choice(calls)), name)
+        if case is not None:
             return case
 
 
@@ -853,6 +906,55 @@ def settles(rng, kind):
             return dict(session_scene(rng, "settle", desk), session=caller)
 
 
+def accepted(rng, call):
+    """One of the answers of a call that is not refused."""
+    return rng.choice([aim for aim in AIMS[call] if isinstance(aim, str)])
+
+
+def at_ceiling(rng, call, name):
+    """A call with nothing wrong but word 3, which is this; and its answer."""
+    answer = accepted(rng, call)
+    case = aimed(rng, call, answer)
+    clock = case["desk"]["clock"]
+    ceiling = CEILINGS[name](clock)
+    return with_ceiling(case, ceiling), 2 if ceiling < clock else answer
+
+
+def above_ceiling(rng, call, number):
+    """A call with the clock above word 3 and a cause for this refusal; and its answer."""
+    case = aimed(rng, call, number if number >= 6 else accepted(rng, call))
+    case = with_ceiling(case, too_low(rng, case["desk"]["clock"]))
+    spoil(rng, case, number)
+    return case, 1 if number == 1 else 2
+
+
+def opened(rng, call, word_3):
+    """Open or recover of an image with this word 3, and the answer."""
+    if call == "recover":
+        return with_ceiling(aimed(rng, call, "replayed"), word_3), "replayed"
+    return with_ceiling(open_scene(rng), word_3), "ok" if word_3 < L else 10
+
+
+def publish_refused(rng, pair):
+    """Publish with a cause for each of these two."""
+    case = aimed(rng, "publish", 6 if 6 in pair else "end")
+    for number in sorted(pair, reverse=True):  # 1 and 2 go last
+        spoil(rng, case, number)
+    return case
+
+
+def raises(rng, name, edge):
+    """A publish with word 3 so far above the clock, which may be at an edge."""
+    case = at_clock(rng, "publish", edge) if edge else aimed(rng, "publish", "end")
+    return with_ceiling(case, case["desk"]["clock"] + RAISES[name])
+
+
+def traced(rng, call, trace):
+    """Open or publish with nothing wrong but the trace, and the answer."""
+    answer = {"open": "ok", "publish": "end"}[call]
+    return dict(aimed(rng, call, answer), trace=trace), answer if trace >= 48 else 3
+
+
 def largest(rng, call):
     """N 256 and M 16 with a word too few or too many."""
     n, m = 256, 16
@@ -886,6 +988,21 @@ def make(seed, number):
         return settles(rng, kind), (what, SETTLES[kind][0])
     if kind == "largest":
         return largest(rng, what), (what, 1)
+    if kind in CEILINGS or isinstance(kind, int):
+        case, answer = (at_ceiling if kind in CEILINGS else opened)(rng, what, kind)
+        return case, (what, answer)
+    if isinstance(kind, tuple):
+        case, answer = above_ceiling(rng, what, kind[1])
+        return case, (what, answer)
+    if kind == "open refused":
+        return open_scene(rng, *what), ("open", what[0])
+    if kind == "publish refused":
+        return publish_refused(rng, what), ("publish", what[0])
+    if kind in RAISES:
+        return raises(rng, kind, what), ("publish", "end")
+    if kind == "trace":
+        case, answer = traced(rng, what, TRACES[number // len(TURNS) % len(TRACES)])
+        return case, (what, answer)
     return aimed(rng, kind, what), (kind, what)
 
 

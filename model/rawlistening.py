@@ -228,10 +228,25 @@ def refused(rng, call, number, caller, edge=None):
 def broken(rng, call, name):
     """Refused by 2, with just this break."""
     while True:
-        case = ready(rng, call)
-        case["desk"] = raw.broken_desk(rng, case["desk"], case["image"], name)
-        if case["desk"] is not None:
+        case = raw.broken_case(rng, ready(rng, call), name)
+        if case is not None:
             return case, (2, 0)
+
+
+def at_ceiling(rng, call, name):
+    """A call with nothing wrong but header word 3, which is this; below the clock the answer is 2."""
+    if call == READ:
+        case, aim = looked(rng, call, "free", 0)
+    else:
+        case, aim = ready(rng, call), ("empty", 0) if call == FINISH else ("found", 0)
+    clock = case["desk"]["clock"]
+    ceiling = raw.CEILINGS[name](clock)
+    return raw.with_ceiling(case, ceiling), (2, 0) if ceiling < clock else aim
+
+
+def above_ceiling(rng, call, caller):
+    """Refused by 2, the clock above header word 3, whatever the caller."""
+    return rawreels.above_ceiling(rng, ready(rng, call, caller)), (2, 0)
 
 
 def largest(rng, call):
@@ -277,6 +292,11 @@ def emptied(rng, call, edge):
     return ready(rng, call, edge=edge), ("empty", 0)
 
 
+def traced(rng, call, trace):
+    """A finish with nothing wrong but the length of the trace."""
+    return dict(ready(rng, call), trace=trace), ("empty", 0) if trace >= 48 else (3, 0)
+
+
 # ---- cases by aim --------------------------------------------------------
 
 BEGIN, READ, FINISH, FIND = raw.LISTENING_CALLS
@@ -313,7 +333,10 @@ TURNS = ([(FIND, *turn) for turn in SEARCHES]
          + [(READ, looked, kind, place) for kind in SHOWN for place in range(4)]
          + [(READ, looked, kind, 0, own) for kind in SHOWN for own in (1, 3)]
          + [(READ, looked_own, own, place) for own, place in ((1, 0), (2, 1), (4, 0), (4, 3))]
-         + [(FINISH, emptied, edge) for edge in EDGES * 2])
+         + [(FINISH, emptied, edge) for edge in EDGES * 2]
+         + [(call, at_ceiling, name) for call in (READ, FINISH, FIND) for name in raw.CEILINGS]
+         + [(call, above_ceiling, caller) for call in (READ, FINISH, FIND) for caller in (COPIES[0], ("sealed", 1))]
+         + [(FINISH, traced, trace) for trace in (0, 47, 48, 64)])
 
 
 def make(seed, number):

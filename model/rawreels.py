@@ -20,7 +20,7 @@ import raw
 import store
 from raw import TOP
 
-FIRST = 3240  # number of the first reel case in the lines: so many cases of raw.py stand before it
+FIRST = 3612  # number of the first reel case in the lines: so many cases of raw.py stand before it
 SHELF, CARRIER, SPEED, SECONDS = range(4)
 
 
@@ -128,9 +128,16 @@ def filled(case, home, copy):
     return case
 
 
+def above_ceiling(rng, case):
+    """The case with header word 3 below the clock: the store refuses it by 2."""
+    return raw.with_ceiling(case, raw.too_low(rng, case["desk"]["clock"]))
+
+
 def read_scene(rng, how, four):
     """A read of these words: from own, copy or home, a good reel at the other place, or refused by the
     store with this number."""
+    if how == ABOVE:
+        return above_ceiling(rng, read_scene(rng, rng.choice(WHERE), four))
     if how in raw.causes("read"):
         return raw.spoiled(rng, filled(raw.session_scene(rng, "read"), four, four), how)
     case, other = raw.aimed(rng, "read", how), good_reel(rng)
@@ -148,6 +155,8 @@ def write_way(case):
 
 def write_scene(rng, how):
     """A write that the store takes in this way, or refuses with this number."""
+    if how == ABOVE:
+        return above_ceiling(rng, write_scene(rng, rng.choice(WAYS)))
     if how == "second slot":
         return raw.second_slot(rng)
     if how in raw.AIMS["write"]:
@@ -165,6 +174,7 @@ WAYS = ["first", "further", "overwritten"]
 VERDICTS = ["reel", "unused", 15, 16, 17]
 READ_STOPS = [1, 2, 4, 5, 6]
 WRITE_STOPS = READ_STOPS + [7, 8, 9]
+ABOVE = "clock above word 3"
 # What each case in turn is aimed at: call, kind or verdict, and for a read or write what the store does.
 TURNS = ([(call, kind, None) for call in ("pack", "unpack", "length") for kind in KINDS]
          + [("length", kind, None) for kind in LENGTHS]
@@ -176,11 +186,13 @@ TURNS = ([(call, kind, None) for call in ("pack", "unpack", "length") for kind i
          + [("write reel", kind, number) for kind, number in zip(SEVERAL, itertools.cycle(WRITE_STOPS))]
          + [("write reel", "reel", how) for how in (WAYS + ["second slot"] + WRITE_STOPS) * 3]
          + [("read reel", verdict, where) for verdict in ("reel", "unused") for where in WHERE * 2]
-         + [(call, "reel", None) for call in ("pack", "unpack", "length") * 4])
+         + [(call, "reel", None) for call in ("pack", "unpack", "length") * 4]
+         + [(call, verdict, ABOVE) for call in ("read reel", "write reel") for verdict in VERDICTS])
 
 
 def answer_aimed(call, verdict, four, how):
     """The answer, and for a read that the store takes own, copy or home."""
+    how = 2 if how == ABOVE else how
     if call == "read reel":
         return (verdict, how) if how in WHERE else (how, None)
     if verdict == "unused" and call in ("pack", "write reel"):  # it is not written

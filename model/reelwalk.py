@@ -12,7 +12,7 @@ import store
 NAMES = ["lay", "begin", "read", "write", "finish", "publish", "settle",
          "reclaim", "abandon", "cut"]
 BODIES = [2, 1, 2, 34, 1, 1, 1, 1, 1, 1]
-STORING = (4, 6, 7)
+STORING = (4, 5, 6, 7)  # what a cut waits for
 
 
 def text(answer):
@@ -78,11 +78,16 @@ class Walk:
             self.stopped = True
         else:
             self.image = done["image"]
-            self.desk = self.store.open_image(self.image)["desk"]
+            self.open()
         return text(done["answer"])
 
+    def open(self):
+        """Opens the image, which raises its word 3."""
+        done = self.store.open_image(self.image, 48)
+        self.image, self.desk = done["image"], done["desk"]
+
     def plain(self, kind, body):
-        """Begin, read, write, publish, abandon."""
+        """Begin, read, write, abandon."""
         session = body[0]
         if kind == 1:
             done = self.store.begin(self.desk, session)
@@ -90,17 +95,15 @@ class Walk:
             done = self.store.read(self.image, self.desk, session, body[1])
         elif kind == 3:
             done = self.store.write(self.image, self.desk, session, body[1], words_in(body[2:]))
-        elif kind == 5:
-            done = self.store.publish(self.desk, session)
         else:
             done = self.store.abandon(self.desk, session)
         self.desk = done["desk"]
         return text(done["answer"])
 
     def storing(self, kind, session):
-        """Finish, settle, reclaim; with a pending cut the desk is then lost."""
-        call = {4: self.store.finish, 6: self.store.settle, 7: self.store.reclaim}[kind]
-        done = call(self.image, self.desk, 48, session)
+        """Finish, publish, settle, reclaim; with a pending cut the desk is then lost, also by a
+        step that is refused or has no entries."""
+        done = getattr(self.store, NAMES[kind])(self.image, self.desk, 48, session)
         if self.cut is None:
             self.image, self.desk = done["image"], done["desk"]
             return [[text(done["answer"])]]
@@ -117,7 +120,7 @@ class Walk:
             lines.append("replayed %d" % done["answer"]["value"])
             self.image = done["image"]
             done = self.store.recover(self.image, 48)
-        self.desk = self.store.open_image(self.image)["desk"]
+        self.open()
         return lines + ["open"]
 
 

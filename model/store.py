@@ -1,4 +1,4 @@
-"""Reference model of the two-copy record store (document 01, and Req 01 of document 02).
+"""Reference model of the two-copy record store (document 01, and Req 01 and Req 05 of document 02).
 
 An image is a list of 64-bit words, a desk is a dictionary, a trace (the document's strip) is given
 by its length in words. No call alters what it is given. Each call returns a
@@ -9,6 +9,7 @@ does not take or give is None; entries are pairs (index, word).
 L = 2 ** 62
 FENCE = (2 ** 64 - 1, 0)
 TRACE_WORDS = 48
+RAISE = 1024  # how far a raise of header word 3 goes past the new clock
 ZEROS = [0, 0, 0, 0]
 
 
@@ -44,10 +45,17 @@ def length(n, m):
 
 
 def image_right(image):
-    """Word 0 is 1, words 1 and 2 are N and M in range; word 3 not examined."""
+    """Word 0 is 1, words 1 and 2 are N and M in range; word 3 is no part of
+    this check."""
     if len(image) < 4 or image[0] != 1 or not in_range(image[1], image[2]):
         return False
     return len(image) == length(image[1], image[2])
+
+
+def ceiling(image):
+    """Header word 3: no start or end number above it has been given (document
+    02, Req 05)."""
+    return image[3]
 
 
 def home_at(record):
@@ -108,6 +116,12 @@ def to_home(copies):
     return [(home_at(record) + i, words[i]) for record, words in copies for i in range(4)]
 
 
+def raised(clock):
+    """The raise of header word 3: the new clock plus 1,024, and a fence. Past L
+    it is stored as it is."""
+    return [(3, clock + RAISE), FENCE]
+
+
 def arrived(entries, k, chosen):
     """The crash rule: the first k entries are made; stores before the last
     fence have arrived, of the others those that chosen(entry) picks."""
@@ -163,6 +177,12 @@ def rule_clock(desk, image):
     at most L + 16."""
     sealed = sum(e["phase"] == "sealed" for e in desk["sessions"])
     return desk["clock"] >= 1 and desk["clock"] + sealed <= L + 16
+
+
+def rule_ceiling(desk, image):
+    """A desk taken with an image has a clock that is at most word 3 (document
+    02, Req 05)."""
+    return image is None or desk["clock"] <= ceiling(image)
 
 
 def rule_sizes(desk, image):
@@ -228,9 +248,10 @@ def rule_rest(desk, image):
             and all(mark is None for mark in desk["marks"][desk["N"]:]))
 
 
-RULES = {"clock": rule_clock, "sizes": rule_sizes, "counts": rule_counts,
-         "numbers": rule_numbers, "slots": rule_slots, "unused": rule_unused,
-         "records": rule_records, "marks": rule_marks, "rest": rule_rest}
+RULES = {"clock": rule_clock, "ceiling": rule_ceiling, "sizes": rule_sizes,
+         "counts": rule_counts, "numbers": rule_numbers, "slots": rule_slots,
+         "unused": rule_unused, "records": rule_records, "marks": rule_marks,
+         "rest": rule_rest}
 
 
 def broken_rules(desk, image=None):
@@ -264,8 +285,8 @@ def turned_away(desk, session, image=None, trace=None, record=None, phase=None):
 # ---- lay and open --------------------------------------------------------
 
 def lay(n, m, image):
-    """Writes an empty image: zero records, zero slots. Checks 14 before 1,
-    and then the length alone."""
+    """Writes an empty image: zero records, zero slots, word 3 is 0. Checks 14
+    before 1, and then the length alone."""
     if not in_range(n, m):
         return result(no(14), image=image)
     if len(image) != length(n, m):
@@ -273,13 +294,27 @@ def lay(n, m, image):
     return result(said("ok"), image=[1, n, m, 0] + [0] * (len(image) - 4))
 
 
-def open_image(image):
-    """Needs all slots empty; it gives a desk with clock 1, all idle."""
+def open_image(image, trace):
+    """Needs all slots empty. It gives a desk whose clock is word 3 plus 1, all
+    idle, and raises word 3."""
+    refusal = open_turned_away(image, trace)
+    if refusal:
+        return result(refusal, new_desk(0, 0, 0), image)
+    clock = ceiling(image) + 1
+    return result(said("ok"), new_desk(clock, image[1], image[2]), image, raised(clock))
+
+
+def open_turned_away(image, trace):
+    """Open's refusal, or None: checks 1, 3, 11, and 10 after 11."""
     if not image_right(image):
-        return result(no(1), new_desk(0, 0, 0), image)
+        return no(1)
+    if trace < TRACE_WORDS:
+        return no(3)
     if occupied(image):
-        return result(no(11), new_desk(0, 0, 0), image)
-    return result(said("ok"), new_desk(1, image[1], image[2]), image)
+        return no(11)
+    if ceiling(image) >= L:  # open with word 3 at L or more
+        return no(10)
+    return None
 
 
 # ---- calls on the desk alone ---------------------------------------------
@@ -291,15 +326,6 @@ def begin(desk, session):
         return result(refusal, desk)
     start = desk["clock"]
     return result(said("start", start), with_entry(desk, session, entry("active", start)))
-
-
-def publish(desk, session):
-    """Sealed only. End is clock + 1 and the clock becomes that."""
-    refusal = turned_away(desk, session, phase="sealed")
-    if refusal:
-        return result(refusal, desk)
-    end = desk["clock"] + 1
-    return result(said("end", end), dict(with_phase(desk, session, "published", end), clock=end))
 
 
 def abandon(desk, session):
@@ -380,7 +406,7 @@ def copied(desk, session, record, words, slot):
     return with_entry(desk, session, entry("active", own["number"], copies, slot), marks=marks)
 
 
-# ---- finish, settle, reclaim ---------------------------------------------
+# ---- finish, publish, settle, reclaim ------------------------------------
 
 def finish(image, desk, trace, session):
     """Active only. Without copies: idle, "empty". With copies: sealed; the
@@ -407,6 +433,18 @@ def log_body(at, copies):
         place = at + 2 + 5 * i
         entries += [(place + j, word) for j, word in enumerate([record] + words)]
     return entries
+
+
+def publish(image, desk, trace, session):
+    """Sealed only. End is clock + 1 and the clock becomes that. Where it passes
+    word 3, word 3 is raised; otherwise there are no stores."""
+    refusal = turned_away(desk, session, image, trace, phase="sealed")
+    if refusal:
+        return result(refusal, desk, image)
+    end = desk["clock"] + 1
+    entries = raised(end) if end > ceiling(image) else []
+    return result(said("end", end), dict(with_phase(desk, session, "published", end), clock=end),
+                  image, entries)
 
 
 def settle(image, desk, trace, session):

@@ -22,7 +22,7 @@ import streams  # noqa: E402
 
 CRATES = os.path.join(HERE, "..", "crates")
 SEEDS = {kind: 14 for kind in streams.KINDS}
-SEEDS["long"] = 6
+SEEDS.update({"long": 6, "ceiling": 4, "openings": 6, "cuts_publish": 6})
 RAW_SEED = 1
 # What makes the raw cases, each from this number on; of the last two it is one round.
 RAW_MAKERS = [(0, raw), (rawreels.FIRST, rawreels), (rawlistening.FIRST, rawlistening)]

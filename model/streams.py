@@ -256,6 +256,22 @@ def cuts_reclaim(rng):
     return maker.bytes
 
 
+def cuts_publish(rng):
+    """Publish of 1 to 4 copies under a cut of any count, with no entries, or refused: the desk is lost."""
+    maker = Maker(rng, rng.choice([8, 20, 256]), rng.choice([2, 4, 16]))
+    for k in [0, 1, 2, 3, 255] * 6:
+        records = rng.sample(range(maker.n), rng.randrange(1, 5))
+        goal = rng.choice(["sealed", "sealed", "sealed", "active", "published"])  # the last two are refused
+        maker.to_phase(0, records, goal)
+        with_others(maker, rng, records)
+        maker.do(CUT, k)
+        if rng.random() < 0.5:
+            maker.do(READ, 0, records[0])  # the cut waits
+        maker.do(PUBLISH, 0 if rng.random() < 0.9 else maker.m)
+        maker.look(0, records)
+    return maker.bytes
+
+
 def cuts_idle(rng):
     """Cuts that meet a refusal, an answer without entries, or another cut."""
     maker = Maker(rng, 6, 3)
@@ -265,8 +281,8 @@ def cuts_idle(rng):
         if rng.random() < 0.3:
             maker.do(CUT, rng.randrange(30))
         session = rng.choice([0, 1, 2, 3, 255])
-        maker.do(rng.choice([BEGIN, PUBLISH, ABANDON]), session)
-        maker.do(rng.choice([FINISH, SETTLE, RECLAIM]), session)
+        maker.do(rng.choice([BEGIN, ABANDON]), session)
+        maker.do(rng.choice([FINISH, PUBLISH, SETTLE, RECLAIM]), session)
     if rng.random() < 0.5:
         maker.do(CUT, 1)  # input may end with a cut pending
     return maker.bytes
@@ -355,6 +371,71 @@ def settled(maker, rng, writers):
     return order
 
 
+def openings(rng):
+    """Many openings with a few transactions each: a finish, publish, settle or reclaim cut at any count."""
+    maker = Maker(rng, *rng.choice([(1, 1), (4, 2), (12, 3), (40, 16)]), cut=0.0)
+    ready = {FINISH: "active", PUBLISH: "sealed", SETTLE: "published", RECLAIM: "settled"}
+    while maker.walk.steps < 500:
+        session, kind = rng.randrange(maker.m), rng.choice(list(ready))
+        records = rng.sample(range(maker.n), min(maker.n, rng.randrange(1, 5)))
+        if rng.random() < 0.8:  # it has entries, or is a publish
+            maker.to_phase(session, records, ready[kind])
+        maker.go(rng.choice([0, 2, 8]))
+        maker.do(CUT, rng.choice([0, 1, 2, 3, 255, rng.randrange(26)]))
+        if rng.random() < 0.2:
+            maker.do(BEGIN, rng.randrange(maker.m))  # its start is used up
+        maker.do(kind, session if rng.random() < 0.9 else maker.m)
+        maker.look(rng.randrange(maker.m), records)
+    return maker.bytes
+
+
+def passed(maker, rng, transactions):
+    """So many transactions from begin to reclaim, one after the other, by sessions 0 and 1."""
+    for _ in range(transactions):
+        session = rng.randrange(2)
+        maker.to_phase(session, [rng.randrange(maker.n)], "settled")
+        maker.do(RECLAIM, session)
+
+
+CEILING_WAYS = 4
+
+
+def ceiling(rng, way=None):
+    """The 1,025th publish of an opening raises word 3: cut with 0, 1 or 2 entries arrived, or not cut."""
+    way = rng.randrange(CEILING_WAYS) if way is None else way
+    maker = Maker(rng, rng.choice([2, 3, 5]), 4, cut=0.03)
+    one, other = rng.sample(range(maker.n), 2)
+    passed(maker, rng, 1023)
+    maker.do(BEGIN, 2)
+    maker.to_phase(0, [one], "published")  # its end is word 3
+    maker.do(BEGIN, 3)
+    maker.to_phase(1, [other], "sealed")
+    if way < 3:
+        maker.do(CUT, way)
+    maker.do(PUBLISH, 1)                   # its end is above word 3
+    if way == 3:
+        over_the_raise(maker, one, other)
+        maker.go(40)
+        maker.do(CUT, rng.randrange(3))
+        maker.do(RECLAIM, 0)
+    maker.look(0, [one, other])
+    maker.go(80)
+    return maker.bytes
+
+
+def over_the_raise(maker, one, other):
+    """Readers that began before the raise, and one that begins after it; sessions 0 and 1 wait for them."""
+    for reader in (2, 3, 2):
+        for record in (one, other):
+            maker.do(READ, reader, record)
+        for writer in (0, 1):
+            maker.do(SETTLE, writer)
+        maker.do(FINISH, reader)
+        maker.do(BEGIN, reader)
+    for writer in (0, 1):
+        maker.do(RECLAIM, writer)
+
+
 def sizes_refused(rng):
     """Step 0 with M out of range, with bytes behind it that are not read."""
     n, m = rng.choice([0, 1, 2, 255]), rng.choice([0, 17, 18, 128, 255])
@@ -409,14 +490,17 @@ def noise(rng):
 
 KINDS = {f.__name__: f for f in (
     mix, hot, cold, small, large, long, stray, restless, cuts_finish, cuts_settle,
-    cuts_reclaim, cuts_idle, every_answer, readers, sizes_refused, damaged, noise)}
+    cuts_reclaim, cuts_publish, cuts_idle, every_answer, readers, openings, ceiling, sizes_refused,
+    damaged, noise)}
 
 
 def stream(kind, seed):
-    """The bytes of one stream; the endings go round by seed."""
+    """The bytes of one stream; the endings and the ways of ceiling go round by seed."""
     rng = random.Random("%s/%d" % (kind, seed))
     if kind == "damaged":
         return bytes(damaged(rng, seed % ENDINGS))
+    if kind == "ceiling":
+        return bytes(ceiling(rng, seed % CEILING_WAYS))
     return bytes(KINDS[kind](rng))
 
 

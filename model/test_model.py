@@ -99,13 +99,14 @@ class Book:
 # ---- answers foreseen without image or desk ------------------------------
 
 class Foresight:
-    """Phases, copied records and occupied slots, kept from the calls alone."""
+    """Phases, copied records, occupied slots, clock and ceiling, kept from the calls alone."""
 
     NEED = {"begin": "idle", "read": "active", "write": "active", "abandon": "active",
             "finish": "active", "publish": "sealed", "settle": "published"}
 
-    def __init__(self, n, m):
-        self.n, self.m, self.clock = n, m, 1
+    def __init__(self, n, m, word_3=0):
+        self.n, self.m, self.clock = n, m, word_3 + 1  # of an image opened with this in header word 3
+        self.ceiling = self.clock + 1024
         self.phase, self.at = ["idle"] * m, [0] * m  # at: start, persist or end
         self.mine = [[] for _ in range(m)]           # records copied
         self.slot = [None] * m
@@ -167,6 +168,8 @@ class Foresight:
         if copies == 0:
             self.drop(session)
             return ("empty", 0, 0)
+        if self.clock >= L:
+            return (10, 0, 0)
         self.phase[session], self.at[session] = "sealed", self.clock
         self.logs[2 * session + self.slot[session]] = self.clock
         return ("sealed", self.clock, 5 * copies + 4)
@@ -174,12 +177,16 @@ class Foresight:
     def publish(self, session, record):
         self.clock += 1
         self.phase[session], self.at[session] = "published", self.clock
-        return ("end", self.clock, 0)
+        if self.clock <= self.ceiling:
+            return ("end", self.clock, 0)
+        self.ceiling = self.clock + 1024
+        return ("end", self.clock, 2)
 
     def settle(self, session, record):
-        for start in range(1, self.at[session]):  # the starts below this end, smallest first
+        starts = {self.at[other] for other in range(self.m) if self.phase[other] == "active"}
+        for start in sorted(starts):  # those below this end, smallest first
             for other in range(self.m):
-                if (self.phase[other], self.at[other]) == ("active", start):
+                if (self.phase[other], self.at[other]) == ("active", start) and start < self.at[session]:
                     return ("wait", other, 0)
         copies = len(self.mine[session])
         self.drop(session)
@@ -203,12 +210,13 @@ class Foresight:
 class Trial:
     """A store with a random schedule run on it, and the book kept of it."""
 
-    def __init__(self, st, rng, n=None, m=None):
+    def __init__(self, st, rng, n=None, m=None, word_3=None):
         self.st, self.rng = st, rng
         self.n, self.m = n or rng.randrange(1, 7), m or rng.randrange(1, 5)
         done = st.lay(self.n, self.m, [7] * (4 + 4 * self.n + 44 * self.m))
         same(answer_of(done), ("ok", 0), "lay")
         self.image = self.scribbled(done["image"])
+        self.image[3] = rng.choice([0, 0, 1025, rng.randrange(10 ** 6)]) if word_3 is None else word_3
         self.lazy = rng.random()  # how seldom logs are reclaimed
         self.opened()
 
@@ -221,11 +229,24 @@ class Trial:
         return image
 
     def opened(self):
-        done = self.st.open_image(self.image)
+        """Opens the image. The memory is fed the stores from here on."""
+        done, word_3 = self.st.open_image(self.image, 48), self.image[3]
         same(answer_of(done), ("ok", 0), "open")
-        self.desk = done["desk"]
+        self.memory = Memory(self.image)
+        self.memory.take(done["entries"])
+        self.image, self.desk = done["image"], done["desk"]
         self.book = Book(self.homes())
-        self.foresight = Foresight(self.n, self.m)
+        self.foresight = Foresight(self.n, self.m, word_3)
+        self.pass_by()
+
+    def pass_by(self):
+        """Lets transactions pass by that are settled and reclaimed: the clock goes up to word 3 or near it."""
+        times = self.rng.choice([0, 0, 1024, 1023, self.rng.randrange(1015, 1025), self.rng.randrange(1025)])
+        clock = self.desk["clock"]
+        times = min(times, L - clock)  # at L nothing is sealed
+        self.passed = range(clock, clock + times + 1) if times else ()  # the numbers that they were given
+        self.desk = dict(self.desk, clock=clock + times)
+        self.foresight.clock += times
 
     def homes(self, image=None):
         image = self.image if image is None else image
@@ -253,7 +274,7 @@ class Trial:
     def made(self, call, session, record, words):
         """The call's result, with nothing taken over."""
         st = self.st
-        if call in ("begin", "publish", "abandon"):
+        if call in ("begin", "abandon"):
             return dict(getattr(st, call)(self.desk, session), image=self.image)
         if call == "read":
             return st.read(self.image, self.desk, session, record)
@@ -262,9 +283,10 @@ class Trial:
         return getattr(st, call)(self.image, self.desk, 48, session)
 
     def take(self, step, done):
-        """Takes over desk and image and feeds the book."""
+        """Takes over desk and image and feeds the book and the memory."""
         self.image, self.desk = done["image"], done["desk"]
         self.book.feed(*step, done["answer"])
+        self.memory.take(done["entries"])
 
 
 def groups(entries):
@@ -284,8 +306,10 @@ def whole_case(st):
     same(reelwalk.output(reelwalk.WHOLE_CASE, st), reelwalk.WHOLE_CASE_LINES, "whole case")
 
 
-def laid(st, n=2, m=2):
-    return st.lay(n, m, [0] * st.length(n, m))["image"]
+def laid(st, n=2, m=2, word_3=2 ** 63):
+    """A laid image, with header word 3 high enough for any desk."""
+    image = st.lay(n, m, [0] * st.length(n, m))["image"]
+    return image[:3] + [word_3] + image[4:]
 
 
 def held_desk(st, reader_start, end):
@@ -311,8 +335,8 @@ def edges(st):
     # A: N 256, M 16: 1,732 words pass, 1,731 give 1.
     same(answer_of(st.lay(256, 16, [0] * 1732)), ("ok", 0), "A")
     same(answer_of(st.lay(256, 16, [0] * 1731)), (1, 0), "A")
-    same(answer_of(st.open_image(laid(st, 256, 16))), ("ok", 0), "A")
-    same(answer_of(st.open_image(laid(st, 256, 16)[:-1])), (1, 0), "A")
+    same(answer_of(st.open_image(laid(st, 256, 16, 0), 48)), ("ok", 0), "A")
+    same(answer_of(st.open_image(laid(st, 256, 16, 0)[:-1], 48)), (1, 0), "A")
     # B: N 257 gives 14.
     same(answer_of(st.lay(257, 16, [0] * 1736)), (14, 0), "B")
     # C: start 6, holder's end 6: copy. D: start 5, end 6: home.
@@ -354,9 +378,10 @@ def edges(st):
         image[4 + 8 + 44 + 1] = 5
         same(answer_of(st.recover(image, 48)), wanted, "M, N")
     # Trace of 47 words: 3. Session and record both too large: 4.
-    for call in (st.finish, st.settle, st.reclaim):
+    for call in (st.finish, st.publish, st.settle, st.reclaim):
         same(answer_of(call(laid(st), st.new_desk(1, 2, 2), 47, 9)), (3, 0), "trace")
     same(answer_of(st.recover(laid(st), 47)), (3, 0), "trace")
+    same(answer_of(st.open_image(laid(st), 47)), (3, 0), "trace")
     same(answer_of(st.read(laid(st), st.new_desk(1, 2, 2), 2, 2)), (4, 0), "both too large")
     more_edges(st)
 
@@ -414,8 +439,8 @@ def more_edges(st):
     same(answer_of(st.recover(image, 48)), (13, 0), "13 within a session")
     image = slot_put(st, slot_put(st, laid(st, 4, 2), 3, 7, [2, 2]), 1, 7, [4])
     same(answer_of(st.recover(image, 48)), (12, 1), "12 before 13, lowest place")
-    same(answer_of(st.open_image(slot_put(st, laid(st), 3, TOP, [0]))), (11, 0), "11")
-    same(st.open_image([1, 1])["desk"], st.new_desk(0, 0, 0), "desk of a refused open")
+    same(answer_of(st.open_image(slot_put(st, laid(st), 3, TOP, [0]), 48)), (11, 0), "11")
+    same(st.open_image([1, 1], 48)["desk"], st.new_desk(0, 0, 0), "desk of a refused open")
     desk = st.begin(st.new_desk(1, 2, 2), 0)["desk"]
     full = slot_put(st, slot_put(st, laid(st), 0, 1, [0]), 1, 1, [1])
     same(answer_of(st.write(full, desk, 0, 0, [1] * 4)), (9, 0), "9")
@@ -427,7 +452,7 @@ def more_edges(st):
     clock = st.new_desk(TOP, 2, 2)
     clock["sessions"][0] = st.entry("sealed", 1, [[0, [0] * 4]])
     clock["marks"][0] = 0
-    same(answer_of(st.publish(clock, 0)), (2, 0), "clock past L + 16")
+    same(answer_of(st.publish(laid(st, word_3=TOP), clock, 48, 0)), (2, 0), "clock past L + 16")
 
 
 def program_lines(st):
@@ -447,7 +472,7 @@ def program_lines(st):
     for k, log in ((0, 0), (7, 0), (8, 1), (9, 1), (255, 1)):
         same(lines(head + "0963 09%02x 0400 0100 020001" % k)[3:],
              ["4 cut 99", "5 cut %d" % k, "6 finish 0 cut"] + ["6 replayed 1"] * log
-             + ["6 open", "7 begin 0 start 1", "8 read 0 1 %d 0 0 0 home" % (5 * log)], "cut")
+             + ["6 open", "7 begin 0 start 1026", "8 read 0 1 %d 0 0 0 home" % (5 * log)], "cut")
     same(lines("000202 0903 0100 0405 0200ff")[1:],
          ["2 cut 3", "3 begin 0 start 1", "4 finish 5 no 4", "4 open", "5 read 0 255 no 5"],
          "cut of a refused step")
@@ -462,25 +487,31 @@ def program_lines(st):
 
 def answers(st):
     """Every answer of random schedules foreseen; shape of the entries."""
-    waits = above = 0  # above: a session below the one named is in the way too
+    waits = above = raises = past = 0  # above: a session below the one named is in the way too
     for run in range(int(350 * SHARE)):
         rng = random.Random("answers/%d" % run)
         big = run % 10 == 9  # with few sessions or few steps settle seldom has a choice
-        trial = Trial(st, rng, *((40, 16) if big else ()))
+        word_3 = L - 1 - rng.randrange(1050) if run % 7 == 3 else None  # the clock comes to L
+        trial = Trial(st, rng, *((40, 16) if big else (None, None)), word_3)
         for _ in range(360 if big else 120):
             step = trial.choose()
             done = trial.made(*step)
             wanted = trial.foresight.step(*step[:3])
             same((*answer_of(done), len(done["entries"])), wanted, "%s in run %d" % (step[0], run))
+            same(done["image"][3], trial.foresight.ceiling, "word 3 after %s in run %d" % (step[0], run))
             check_shape(st, trial, step, done)
             trial.take(step, done)
+            raises += step[0] == "publish" and wanted[2] == 2
+            past += wanted[0] == 10 or (wanted[0] == "end" and wanted[1] >= L)
             if wanted[0] == "wait":
                 waits += 1
                 phase, at = trial.foresight.phase, trial.foresight.at
                 above += any(phase[s] == "active" and at[s] < at[step[1]] for s in range(wanted[1]))
     if above < 100 * SHARE:
         raise AssertionError("too few waits for another than the lowest: %d of %d" % (above, waits))
-    return "wait %d, for another than the lowest in the way %d" % (waits, above)
+    if min(raises, past) < 50 * SHARE:
+        raise AssertionError("too few raises or answers at L: %d, %d" % (raises, past))
+    return "wait %d, for another than the lowest in the way %d, raises of word 3 %d" % (waits, above, raises)
 
 
 def check_shape(st, trial, step, done):
@@ -560,14 +591,12 @@ def crashes(st):
         rng = random.Random("crashes/%d" % run)
         trial = Trial(st, rng)
         for _ in range(3):  # generations on one image
-            memory = Memory(trial.image)
             for _ in range(rng.randrange(5, 70)):
                 step = trial.choose()
                 done = trial.made(*step)
                 trial.foresight.step(*step[:3])
                 trial.take(step, done)
-                memory.take(done["entries"])
-            cut_call(trial, memory, rng)
+            cut_call(trial, rng)
             times = recovered(st, trial, rng, run)
             cuts, replays = cuts + 1, replays + times
             same(trial.homes(), trial.book.records(), "records in run %d" % run)
@@ -581,8 +610,9 @@ def cut_at(rng, entries):
     return rng.choice([rng.randrange(len(entries) + 1), len(entries) - 1])
 
 
-def cut_call(trial, memory, rng):
+def cut_call(trial, rng):
     """Cuts one more call; a finish whose persist number arrived is sealed."""
+    memory = trial.memory
     for _ in range(rng.choice([0, 8, 8])):  # mostly one that has entries
         step = trial.choose()
         done = trial.made(*step)
@@ -597,10 +627,11 @@ def cut_call(trial, memory, rng):
 
 
 def recovered(st, trial, rng, run):
-    """Recovers until clean, cutting some of the calls. Returns the replays."""
-    share = rng.choice([0, 0.3, 0.6])
+    """Recovers until clean, cutting some of the calls. Returns the replays. Word 3 is left alone."""
+    share, word_3 = rng.choice([0, 0.3, 0.6]), trial.image[3]
     for times in range(400):
         done = st.recover(trial.image, 48)
+        same((trial.image[3], done["image"][3]), (word_3, word_3), "word 3 in recovery in run %d" % run)
         if answer_of(done) == ("clean", 0):
             return times
         same(done["answer"]["name"], "replayed", "recover in run %d" % run)
@@ -611,6 +642,299 @@ def recovered(st, trial, rng, run):
         trial.image = memory.cut(rng) if cut else memory.after(memory.loose)
     raise AssertionError("recovery without end in run %d" % run)
 
+
+# ---- the ceiling (document 02, Req 05) ------------------------------------
+
+def sealed_scene(st, clock, word_3, sealed=1, n=16, m=16):
+    """Image with this word 3, and desk with so many sessions sealed, from 0 up; each copies the record of its number."""
+    desk = st.new_desk(clock, n, m)
+    for session in range(sealed):
+        desk["sessions"][session] = st.entry("sealed", clock, [[session, [session, 2, 3, 4]]], session % 2)
+        desk["marks"][session] = session
+    return laid(st, n, m, word_3), desk
+
+
+def stored_alone(done, image, index, word, what):
+    """One store and its fence: the entries, and the image with that word alone changed."""
+    same(done["entries"], [(index, word), FENCE], "entries of " + what)
+    same(done["image"], image[:index] + [word] + image[index + 1:], "image after " + what)
+    same(store.trace_after(list(range(50)), done["entries"]), [index, word, TOP, 0, *range(4, 50)], "trace")
+
+
+def ceiling_opens(st):
+    """Open: the clock is word 3 plus 1, word 3 is then the new clock plus 1,024; 10 with word 3 at L or more."""
+    same(st.lay(2, 2, [7] * 100)["image"], [1, 2, 2, 0] + [0] * 96, "lay writes 0 into word 3")
+    for word_3 in (0, 1, 2, 5, 1024, 1025, 2050, 2 ** 32, L - 1026, L - 1025, L - 1024, L - 2, L - 1):
+        for trace in (48, 49, 64):
+            image = laid(st, 3, 2, word_3)
+            done = st.open_image(image, trace)
+            same(told(done), ("ok", 0, ZEROS), "open with word 3 at %d" % word_3)
+            same(done["desk"], st.new_desk(word_3 + 1, 3, 2), "desk of open with word 3 at %d" % word_3)
+            stored_alone(done, image, 3, word_3 + 1025, "open")
+    for word_3 in (L, L + 1, L + 1024, 2 ** 63, TOP - 1024, TOP):
+        image = laid(st, 3, 2, word_3)
+        done = st.open_image(image, 48)
+        same(told(done), (10, 0, ZEROS), "open with word 3 at %d" % word_3)
+        left(done, image, st.new_desk(0, 0, 0), "open refused with 10")
+    image = laid(st, 1, 1, 0)
+    for clock in (1, 1026, 2051, 3076):  # each opening uses up 1,025 numbers
+        done = st.open_image(image, 48)
+        same(done["desk"]["clock"], clock, "clock of an opening")
+        image = done["image"]
+    image = laid(st, 2, 2, L - 1)  # opens once more, and nothing can be sealed
+    done = st.open_image(image, 48)
+    image, desk = done["image"], st.begin(done["desk"], 0)["desk"]
+    desk = st.write(image, desk, 0, 1, [5] * 4)["desk"]
+    same(answer_of(st.finish(image, desk, 48, 0)), (10, 0), "finish after the last opening")
+    same(answer_of(st.open_image(image, 48)), (10, 0), "open after the last opening")
+    done = st.open_image(st.lay(2, 2, image)["image"], 48)
+    same((answer_of(done), done["desk"]["clock"]), (("ok", 0), 1), "open, laid anew")
+
+
+def ceiling_orders(st):
+    """Open makes the checks 1, 3, 11, 10 and publish 1, 2, 3, 4, 6, in this order, and no other."""
+    for wrong in subsets([1, 3, 11, 10]):
+        image = laid(st, 3, 2, L if 10 in wrong else L - 1)
+        image = slot_put(st, image, 3, 9, [0]) if 11 in wrong else image
+        image = image[:-1] if 1 in wrong else image
+        done = st.open_image(image, 47 if 3 in wrong else 48)
+        same(told(done), ((wrong + ["ok"])[0], 0, ZEROS), "open with %s" % wrong)
+        if wrong:
+            left(done, image, st.new_desk(0, 0, 0), "open refused with %d" % wrong[0])
+    for wrong, how in itertools.product(subsets([1, 2, 3, 4, 6]), ("ceiling", "clock")):
+        image, desk = sealed_scene(st, 9, 8 if 2 in wrong and how == "ceiling" else 9)
+        desk = dict(desk, clock=0) if 2 in wrong and how == "clock" else desk
+        session = (16 if 4 in wrong else 0) + (3 if 6 in wrong else 0)
+        image = image[:-1] if 1 in wrong else image
+        done = st.publish(image, desk, 47 if 3 in wrong else 48, session)
+        same(told(done), (wrong[0], 0, ZEROS) if wrong else ("end", 10, ZEROS), "publish with %s" % wrong)
+        if wrong:
+            left(done, image, desk, "publish refused with %d" % wrong[0])
+    for trace in range(65):
+        wanted = 3 if trace < 48 else None
+        same(answer_of(st.open_image(laid(st, word_3=0), trace))[0], wanted or "ok", "open, trace of %d" % trace)
+        for word_3 in (9, 10):  # also where there are no entries
+            image, desk = sealed_scene(st, 9, word_3)
+            got = answer_of(st.publish(image, desk, trace, 0))[0]
+            same(got, wanted or "end", "publish, trace of %d" % trace)
+
+
+def subsets(items):
+    """All selections, in the order given."""
+    return [list(some) for size in range(len(items) + 1) for some in itertools.combinations(items, size)]
+
+
+def ceiling_publishes(st):
+    """Publish: two entries when its new clock passes word 3, else none; past L the raise is stored as it is."""
+    rows = [(clock, clock + more, 1) for clock in (1, 2, 1025, 10 ** 6, L - 1026, L - 1025, L - 2, L - 1, L, L + 1)
+            for more in (0, 1, 2, 1023, 1024, 1025)]
+    rows += [(clock, word_3, 1) for clock in (1, 9, L) for word_3 in (L, L + 1, 2 ** 63, TOP)]
+    rows += [(L + 16 - sealed, L + 16 - sealed + more, sealed) for sealed in (1, 2, 16) for more in (0, 1)]
+    for clock, word_3, sealed in rows:
+        what = "publish with clock %d, word 3 at %d" % (clock, word_3)
+        image, desk = sealed_scene(st, clock, word_3, sealed)
+        done = st.publish(image, desk, 48, 0)
+        same(told(done), ("end", clock + 1, ZEROS), what)
+        after = dict(st.with_phase(desk, 0, "published", clock + 1), clock=clock + 1)
+        if clock + 1 > word_3:
+            stored_alone(done, image, 3, clock + 1025, what)
+            same(done["desk"], after, "desk after " + what)
+        else:
+            left(done, image, after, what)
+        same(st.broken_rules(done["desk"], done["image"]), [], "rules broken after " + what)
+
+
+def ceiling_calls(st, clock):
+    """Calls that take image and desk, with nothing wrong: image, call, the rest of its arguments, and answer."""
+    desk = st.new_desk(clock, 4, 4)
+    numbers = [("active", 1), ("active", clock), ("sealed", clock), ("published", clock)]
+    for session, (phase, number) in enumerate(numbers):
+        desk["sessions"][session] = st.entry(phase, number, [[session, [1, 2, 3, 4]]][:session])
+        desk["marks"][session] = session if session else None
+    image = laid(st, 4, 4)
+    yield image, st.read, (desk, 0, 0), "home"
+    yield image, st.write, (desk, 0, 0, [5] * 4), "ok"
+    yield image, st.finish, (desk, 48, 0), "empty"
+    yield image, st.finish, (desk, 48, 1), "sealed" if clock < L else 10
+    yield image, st.publish, (desk, 48, 2), "end"
+    yield image, st.settle, (desk, 48, 3), "wait"
+    yield image, st.reclaim, (desk, 48, 1), "none"
+
+
+def ceiling_coherence(st):
+    """Each call that takes an image finds a desk with a clock above word 3 not coherent; begin and abandon
+    take none. Of the others only open and publish store into word 3."""
+    for clock in (2, 9, 1026, L - 1, L, L + 15):
+        for image, call, rest, wanted in ceiling_calls(st, clock):
+            desk, what = rest[0], "%s with clock %d, word 3 at " % (call.__name__, clock)
+            for word_3 in (0, 1, clock - 1, clock, clock + 1, L - 1, L, L + 15, L + 16, 2 ** 63, TOP):
+                given = image[:3] + [word_3] + image[4:]
+                done = call(given, *rest)
+                same(answer_of(done)[0], 2 if word_3 < clock else wanted, what + "%d" % word_3)
+                if word_3 < clock:
+                    same((done["desk"], done["image"], done["entries"]), (desk, given, []), "refused with 2")
+                elif call.__name__ != "publish":
+                    same(done["image"][3], word_3, "word 3 left by " + what + "%d" % word_3)
+    desk = st.begin(st.new_desk(9, 2, 2), 0)
+    same((answer_of(desk), answer_of(st.abandon(desk["desk"], 0))), (("start", 9), ("ok", 0)), "begin and abandon")
+    same(st.coherent(st.new_desk(9, 2, 2)), True, "a desk without an image")
+    for word_3 in (0, 1, 1025, L - 1, L, L + 1, TOP):
+        done = st.recover(slot_put(st, laid(st, word_3=word_3), 1, 5, [1]), 48)
+        same((answer_of(done), done["image"][3]), (("replayed", 5), word_3), "recover leaves word 3")
+        same(answer_of(st.recover(laid(st, word_3=word_3), 48)), ("clean", 0), "recover, whatever word 3")
+
+
+def lives(st):
+    """Any number of lives of one image, cut anywhere: no start or end number of one opening is given in a
+    later one; the records are the book's; recovery leaves word 3 alone."""
+    seen = Counter()
+    for run in range(int(240 * SHARE)):
+        rng = random.Random("lives/%d" % run)
+        word_3 = L - 1 - rng.randrange(9000) if run % 8 == 5 else None  # few openings are left
+        trial, earlier = Trial(st, rng, rng.randrange(1, 5), rng.randrange(1, 4), word_3), set()
+        for _ in range(rng.randrange(2, 10)):
+            given = set(trial.passed)
+            seen["cut in " + life(trial, rng, given)] += 1
+            same(sorted(given & earlier), [], "numbers given again in run %d" % run)
+            earlier |= given
+            seen["replayed"] += recovered(st, trial, rng, run)
+            same(trial.homes(), trial.book.records(), "records in run %d" % run)
+            while rng.random() < 0.4:
+                open_cut(st, trial, rng)
+                seen["cut in open"] += 1
+                recovered(st, trial, rng, run)
+                same(trial.homes(), trial.book.records(), "records, open cut in run %d" % run)
+            if trial.image[3] >= L:
+                same(answer_of(st.open_image(trial.image, 48)), (10, 0), "open in run %d" % run)
+                seen["used up"] += 1
+                break
+            trial.opened()
+    wanted = {"cut in a raise": 60, "cut in another call": 60, "cut in open": 60, "used up": 6}
+    few = [name for name, least in wanted.items() if seen[name] < least * SHARE]
+    same(few, [], "too few of")
+    return ", ".join("%s %d" % part for part in sorted(seen.items()))
+
+
+def life(trial, rng, given):
+    """The calls of one opening up to the cut; where a publish raises word 3, it is mostly the call that is cut."""
+    at_raise = rng.random() < 0.7
+    for _ in range(rng.randrange(5, 60)):
+        step = trial.choose()
+        done = trial.made(*step)
+        if at_raise and step[0] == "publish" and done["entries"]:
+            trial.memory.take(done["entries"][:rng.randrange(3)])
+            trial.image = trial.memory.cut(rng)
+            return "a raise"
+        trial.foresight.step(*step[:3])
+        trial.take(step, done)
+        if done["answer"]["name"] in ("start", "end"):
+            given.add(done["answer"]["value"])
+    cut_call(trial, rng)
+    return "another call"
+
+
+def open_cut(st, trial, rng):
+    """An opening that is cut: nothing to all of its entries are made, and the desk is lost."""
+    memory = Memory(trial.image)
+    memory.take(st.open_image(trial.image, 48)["entries"][:rng.randrange(3)])
+    trial.image = memory.cut(rng)
+
+
+def numbers_follow(lines, what):
+    """The numbers that the program prints are those of a clock and a ceiling kept from its lines alone; none
+    of an earlier opening comes back. Returns the largest start."""
+    clock = ceiling = pending = largest = 0
+    given, earlier = set(), set()
+    for line in lines:
+        fields = line.split(" ")
+        call, name, last = fields[1], fields[-2], fields[-1]
+        if call == "cut":
+            pending = int(last)
+        elif call == "open" or (call, last) == ("lay", "ok"):
+            clock, ceiling = ceiling + 1, ceiling + 1025
+            given, earlier = set(), earlier | given
+        elif (call, last) == ("publish", "cut"):
+            same(clock, ceiling, "%s, a publish with entries: %s" % (what, line))
+            ceiling = clock + 1025 if pending else ceiling
+        elif name in ("start", "sealed", "end"):
+            clock += name == "end"
+            same(int(last), clock, "%s: %s" % (what, line))
+            ceiling = clock + 1024 if clock > ceiling else ceiling
+            if name != "sealed":
+                given.add(clock)
+                same(clock in earlier, False, "%s, given again: %s" % (what, line))
+                largest = clock
+    return largest
+
+
+def stream_numbers(st):
+    """The numbers in whole streams with many openings, or with an opening in which word 3 is raised."""
+    kinds = [("openings", 3), ("cuts_publish", 2), ("restless", 2), ("cuts_finish", 1), ("cuts_idle", 2)]
+    for kind, seed in [(kind, seed) for kind, seeds in kinds for seed in range(seeds)]:
+        numbers_follow(reelwalk.run(streams.stream(kind, seed), st), "%s %d" % (kind, seed))
+    largest = []
+    for way, start in ((0, 1026), (1, 2051), (2, 2051), (3, None)):
+        lines = reelwalk.run(streams.stream("ceiling", way), st)
+        largest.append(numbers_follow(lines, "ceiling %d" % way))
+        at = lines.index("6150 publish 1 cut" if start else "6149 publish 1 end 1026")
+        if start:
+            same(next(int(line.split(" ")[-1]) for line in lines[at:] if " start " in line), start, "start")
+        else:
+            same([line.split(" ", 1)[1] for line in lines[at:] if " wait " in line][:3],
+                 ["settle 0 wait 2", "settle 1 wait 2", "settle 1 wait 3"], "readers over the raise")
+    if largest[3] <= 2050:
+        raise AssertionError("no number above the raise: %d" % largest[3])
+    return "largest starts %s" % largest
+
+
+def walked(rw, text, clock=None):
+    """The lines of these steps behind a laid store of two records and sessions; with a clock, so many
+    publishes have passed by before. Steps count from 2."""
+    walk, data, at, lines = rw.Walk(), bytes.fromhex(text), 0, []
+    same(walk.step(0, bytes([2, 2])), ["1 lay 2 2 ok"], "lay")
+    walk.desk = dict(walk.desk, clock=clock or walk.desk["clock"])
+    while at < len(data):
+        size = rw.BODIES[data[at]]
+        lines += walk.step(data[at], data[at + 1:at + 1 + size])
+        at += 1 + size
+    return lines
+
+
+WRITTEN = "0100 030001" + "07" * 32  # session 0 begins and writes record 1
+SEVENS = " ".join(["506381209866536711"] * 4)
+
+
+def walk_cuts(rw):
+    """A cut covers publish: with entries "cut", without or refused its usual result; the desk is then lost."""
+    for k, start in ((0, 1026), (1, 2051), (2, 2051), (3, 2051), (255, 2051)):
+        same(walked(rw, WRITTEN + "0400 09%02x 0500 0101 020101 0500" % k, 1025)[2:],
+             ["4 finish 0 sealed 1025", "5 cut %d" % k, "6 publish 0 cut", "6 replayed 1025", "6 open",
+              "7 begin 1 start %d" % start, "8 read 1 1 %s home" % SEVENS, "9 publish 0 no 6"], "a raise cut")
+        same(walked(rw, WRITTEN + "0400 09%02x 0101 0500 0101 020101 0500" % k, 1024)[3:],
+             ["5 cut %d" % k, "6 begin 1 start 1024", "7 publish 0 end 1025", "7 replayed 1024", "7 open",
+              "8 begin 1 start 1026", "9 read 1 1 %s home" % SEVENS, "10 publish 0 no 6"], "no entries, cut")
+        same(walked(rw, WRITTEN + "09%02x 0500 0100 020001 0400 0500" % k)[2:],
+             ["4 cut %d" % k, "5 publish 0 no 6", "5 open", "6 begin 0 start 1026", "7 read 0 1 0 0 0 0 home",
+              "8 finish 0 empty", "9 publish 0 no 6"], "a refused publish cut")
+        same(walked(rw, WRITTEN + "0400 09%02x 0502 0100" % k)[3:],
+             ["5 cut %d" % k, "6 publish 2 no 4", "6 replayed 1", "6 open", "7 begin 0 start 1026"],
+             "a publish out of range cut")
+    same(walked(rw, "0903 0500 " + WRITTEN + "0400 0500 0600 0700 0903 0501 0100 0501")[1:],
+         ["3 publish 0 no 6", "3 open", "4 begin 0 start 1026", "5 write 0 1 ok", "6 finish 0 sealed 1026",
+          "7 publish 0 end 1027", "8 settle 0 ok", "9 reclaim 0 cleared 1026", "10 cut 3", "11 publish 1 no 6",
+          "11 open", "12 begin 0 start 2051", "13 publish 1 no 6"], "one cut for one step")
+    same(walked(rw, WRITTEN + "0400 0500 0101 020101 0600 0401 0901 0600 0100", 1025)[2:],
+         ["4 finish 0 sealed 1025", "5 publish 0 end 1026", "6 begin 1 start 1026",
+          "7 read 1 1 %s copy" % SEVENS, "8 settle 0 ok", "9 finish 1 empty", "10 cut 1", "11 settle 0 no 6",
+          "11 replayed 1025", "11 open", "12 begin 0 start 2051"], "a raise that is not cut")
+    same(walked(rw, "0900 0700" * 3 + "0100")[-3:],
+         ["7 reclaim 0 none", "7 open", "8 begin 0 start 3076"], "each opening uses up 1,025 numbers")
+    for kind, seed in (("openings", 1), ("openings", 2), ("cuts_publish", 1), ("cuts_idle", 1)):
+        numbers_follow(rw.run(streams.stream(kind, seed)), "%s %d" % (kind, seed))
+        same(rw.run(streams.stream(kind, seed)), reelwalk.run(streams.stream(kind, seed)), "lines")
+
+
+# ---- raw cases -----------------------------------------------------------
 
 def case_read(words):
     """A case read back from its input words, and the words left over."""
@@ -663,6 +987,7 @@ def made_unaltered(case, library=None):
 def raw_cases(st):
     """Each raw case meets its aim; refusals leave all; every answer occurs."""
     seen, cases = set(), 4 * len(raw.TURNS)
+    same(rawreels.FIRST % len(raw.TURNS), 0, "stored cases past the last whole round")
     for number in range(cases):
         case, (call, aim) = raw.make(5, number)
         check_format(case, "raw case %d" % number)
@@ -683,12 +1008,93 @@ def raw_cases(st):
     return "%d cases, %d pairs of call and answer" % (cases, len(seen))
 
 
+CEILING_AIMS = ["lay", "open", "publish", "recover"]
+
+
+@functools.lru_cache(maxsize=None)
+def ceiling_round():
+    """Stored raw cases that are about word 3, of four rounds, each with what it is aimed at."""
+    turns = [at for at, (kind, what) in enumerate(raw.TURNS)
+             if isinstance(kind, (int, tuple)) or kind in [*raw.CEILINGS, *raw.RAISES, "trace", *CEILING_AIMS]
+             or "refused" in kind or what == "clock above word 3"]
+    return [raw.make(stored.RAW_SEED, at + turn * len(raw.TURNS)) for turn in range(4) for at in turns]
+
+
+def ceiling_left(case, answer):
+    """Desk and entries that an open or publish must give, found without the store's calls."""
+    word_3, desk = case["image"][3], case["desk"]
+    if answer == "ok":
+        clock = word_3 + 1
+        return store.new_desk(clock, *case["image"][1:3]), [(3, clock + 1024), FENCE]
+    end = desk["clock"] + 1
+    sessions = [dict(e, phase="published", number=end) if session == case["session"] else e
+                for session, e in enumerate(desk["sessions"])]
+    return dict(desk, sessions=sessions, clock=end), [(3, end + 1024), FENCE] if end == word_3 + 1 else []
+
+
+def ceiling_cases(st):
+    """Each stored raw case about word 3 meets its aim and leaves what it must."""
+    for number, (case, (call, aim)) in enumerate(ceiling_round()):
+        what = "case %d about word 3, %s" % (number, case["call"])
+        done = made_unaltered(case, st)
+        same(answer_of(done)[0], aim, what)
+        if isinstance(aim, int):
+            same((done["image"], done["entries"]), (case["image"], []), what + " leaves all")
+            desk = store.new_desk(0, 0, 0) if call == "open" else case["desk"]
+            same(done["desk"], desk, what + " leaves the desk")
+        elif call in ("open", "publish"):
+            same((done["desk"], done["entries"]), ceiling_left(case, aim), what)
+            same(done["image"], store.made(case["image"], done["entries"]), "image after " + what)
+            value = case["desk"]["clock"] + 1 if call == "publish" else 0
+            same(told(done), (aim, value, ZEROS), what)
+        else:
+            same(done["image"][3], 0 if call == "lay" else case["image"][3], "word 3 after " + what)
+            same([index for index, _ in done["entries"] if index == 3], [], "word 3 in the entries")
+    return "%d cases" % len(ceiling_round())
+
+
+def open_causes(case):
+    """What is wrong with an open, in the order of its checks; the slots and word 3 of a right image alone."""
+    image = case["image"]
+    wrong = {1: not store.image_right(image), 3: case["trace"] < 48}
+    if not wrong[1]:
+        wrong.update({11: store.occupied(image) != [], 10: image[3] >= L})
+    return tuple(number for number in wrong if wrong[number])
+
+
+def ceiling_aims(st):
+    """The cases about word 3: every refusal alone and with a later one, every edge with every call."""
+    seen = set()
+    for case, (_, aim) in ceiling_round():
+        image, call, desk = case["image"], case["call"], case["desk"]
+        seen.add((call, aim))
+        if call == "open":
+            seen.add((call, open_causes(case)))
+        if call in ("open", "recover") and len(image) > 3:
+            seen.add((call, "word 3", image[3]))
+        elif desk and aim != 1:
+            seen |= {(call, "word 3", image[3]), (call, "above the clock", image[3] - desk["clock"])}
+        if aim == "end":
+            more, sealed = image[3] - desk["clock"], sum(e["phase"] == "sealed" for e in desk["sessions"])
+            seen |= {("end at", desk["clock"], more), ("end at the largest clock", L + 16 - sealed - desk["clock"], more)}
+    both, words = [call for call in raw.WITH_DESK if call in raw.WITH_IMAGE], [0, 1, L - 1, L, L + 1, TOP]
+    wanted = {(call, "above the clock", more) for call in both for more in (-1, 0, 1)}
+    wanted |= {(call, "word 3", at) for call in both for at in (0, L - 1, L, TOP)}
+    wanted |= {(call, "word 3", at) for call in ("open", "recover") for at in words}
+    wanted |= {("end at", clock, more) for clock in (L - 1, L) for more in (0, 1, 2)}
+    wanted |= {("end at the largest clock", 0, more) for more in (0, 1, 2)}
+    wanted |= {("open", causes) for causes in [(), (1,), (3,), (11,), (10,), (1, 3), (3, 11), (3, 10), (11, 10)]}
+    wanted |= {(call, aim) for call in CEILING_AIMS for aim in raw.AIMS[call]}
+    same(sorted(map(str, wanted - seen)), [], "edges that no case has")
+    return "%d edges" % len(wanted)
+
+
 def stream_kinds(st):
     """Streams of every kind: each result that a stream can reach occurs."""
     seen, steps = streams.count(1)
     wanted = ["lay ok", "lay no 14", "begin start", "read own", "read copy", "read home",
               "write ok", "write no 7", "write no 8", "write no 9", "finish sealed",
-              "finish empty", "finish cut", "publish end", "settle ok", "settle wait",
+              "finish empty", "finish cut", "publish end", "publish cut", "settle ok", "settle wait",
               "settle cut", "reclaim none", "reclaim held", "reclaim cleared", "reclaim cut",
               "abandon ok", "cut", "replayed", "open"]
     wanted += [call + " no 4" for call in reelwalk.NAMES[1:9]] + ["read no 5", "write no 5"]
@@ -797,6 +1203,7 @@ def reel_reads(lib):
         image[4:12] = words * 2
         for scene, number in (
                 ((image[:-1], desk, 0, 0), 1), ((image, dict(desk, clock=0), 0, 2), 2),
+                ((image[:3] + [5] + image[4:], desk, 0, 2), 2),  # the clock is 6
                 ((image, desk, 2, 0), 4), ((image, desk, TOP, TOP), 4), ((image, desk, 0, 5), 5),
                 ((image, desk, 1, 2), 6), ((image, desk, 1, 1), 6)):
             done = lib.read(*scene)
@@ -814,6 +1221,8 @@ def write_scenes():
     yield (slot_put(store, image, 2, 1, [0]), fresh, 1, 4), ("ok", 0)
     yield (image[:-1], desk, 0, 0), (1, 0)
     yield (image, dict(desk, N=4), 0, 0), (2, 0)
+    yield (image[:3] + [5] + image[4:], desk, 0, 0), (2, 0)  # the clock is 6
+    yield (image[:3] + [6] + image[4:], desk, 0, 0), ("ok", 0)
     yield (image, desk, 2, 0), (4, 0)
     yield (image, desk, 0, 5), (5, 0)
     yield (image, desk, 1, 1), (6, 0)
@@ -955,6 +1364,10 @@ def refusal_rows():
     yield {"image": short, "desk": copies}, [1, 1, 1]
     yield {"desk": torn, **far}, [2, 2, 2]
     yield {"desk": dict(copies, clock=5)}, [2, 2, 2]
+    for word_3 in (0, 8):  # the clock is 9
+        yield {"image": image[:3] + [word_3] + image[4:], **far}, [2, 2, 2]
+    for word_3 in (9, 10, 1033):
+        yield {"image": image[:3] + [word_3] + image[4:]}, ["home", "empty", "found"]
     yield far, [4, 3, 4]
     yield {"trace": 47}, ["home", 3, "found"]
     yield {"trace": 0, "session": 5}, [6, 3, 6]
@@ -1112,7 +1525,6 @@ def listening_runs(lib):
     for run in range(int(80 * SHARE)):
         rng = random.Random("listening/%d" % run)
         trial = ListeningTrial(store, rng, *((20, 16) if run % 10 == 9 else ()))
-        memory = Memory(trial.image)
         for _ in range(140):
             if rng.random() < 0.4:
                 listening_step(lib, trial, seen)
@@ -1121,8 +1533,7 @@ def listening_runs(lib):
             done = trial.made(*step)
             same((*answer_of(done), len(done["entries"])), trial.foresight.step(*step[:3]), "run %d" % run)
             trial.take(step, done)
-            memory.take(done["entries"])
-        cut_call(trial, memory, rng)
+        cut_call(trial, rng)
         recovered(store, trial, rng, run)
         same(trial.homes(), trial.book.records(), "records in run %d" % run)
     wanted = ["begin start", "begin 6", "finish empty", "finish 18", "read copy", "read home", "read 18",
@@ -1194,10 +1605,13 @@ def listening_aims(lib):
     return "%d answers" % len(seen)
 
 
+BY_CEILING = [ceiling_opens, ceiling_orders, ceiling_publishes, ceiling_coherence, lives, ceiling_cases]
 BY_STORE = [whole_case, edges, program_lines, answers, reads, crashes]
 BY_REELS = [reel_numbers, reel_lengths, reel_reads, reel_writes, reel_cases]
 BY_LISTENING = [listening_refusals, listening_begins, listening_finds, listening_runs, listening_cases]
-ALL = [(test, store) for test in BY_STORE + [raw_cases, stream_kinds]]
+BY_WALK = [walk_cuts]
+ALL = [(test, store) for test in BY_STORE + BY_CEILING + [ceiling_aims, raw_cases, stream_kinds, stream_numbers]]
+ALL += [(test, reelwalk) for test in BY_WALK]
 ALL += [(test, reels) for test in BY_REELS + [reel_aims]]
 ALL += [(test, listening) for test in BY_LISTENING + [listening_aims]]
 
@@ -1269,6 +1683,146 @@ STORE_FAULTS = [
      "        return no(4)\n    if record is not None"),
     ("all session calls turned away",
      "if not coherent(desk, image):\n        return no(2)", "if True:\n        return no(2)"),
+]
+
+# The same, of Req 05. In UNASKED a call makes its checks as if word 3 were high enough.
+OPEN_1 = "    if not image_right(image):\n        return no(1)\n    if trace < TRACE_WORDS:\n"
+OPEN_3 = "    if trace < TRACE_WORDS:\n        return no(3)\n    if occupied(image):\n"
+OPEN_11 = "    if occupied(image):\n        return no(11)\n"
+OPEN_10 = "    if ceiling(image) >= L:  # open with word 3 at L or more\n        return no(10)\n"
+OPEN_RAISE = "image[2]), image, raised(clock))"
+PUBLISH_RAISE = "entries = raised(end) if end > ceiling(image) else []"
+PUBLISH_CHECKS = "turned_away(desk, session, image, trace, phase=\"sealed\")"
+UNASKED = "(image[:3] + [2 ** 64] + image[4:])"
+CALLED_WITH = "\"\"\"\n    refusal = turned_away(desk, session, "
+ASKED = {"read": "else the home record.", "write": "of the session is reserved.",  # how its docstring ends
+         "finish": "persist number is the clock.", "publish": "there are no stores.",
+         "settle": "the slot stays occupied.", "reclaim": "has a smaller one."}
+ALONE = " or __import__(\"sys\")._getframe(4).f_code.co_name != %r"  # the call that makes the checks
+ASKS = "def turned_away(desk, session, image=None, trace=None, record=None, phase=None):\n"
+ASKED_EARLY = (ASKS + "    if image is not None and len(image) > 3 and not rule_ceiling(desk, image):\n"
+               "        return no(2)\n    return checked(desk, session, image, trace, record, phase)\n\n\n")
+ASKED_LATE = (ASKS + "    high = None if image is None else " + UNASKED + "\n"
+              "    refusal = checked(desk, session, high, trace, record, phase)\n"
+              "    if refusal and refusal[\"number\"] <= %d:\n        return refusal\n"
+              "    return refusal if rule_ceiling(desk, image) else no(2)\n\n\n")
+CEILING_FAULTS = [
+    ("open checks 10 before 11", OPEN_11 + OPEN_10, OPEN_10 + OPEN_11),
+    ("open checks 3 after 11", OPEN_3, OPEN_11 + OPEN_3),
+    ("open checks 3 after 10", OPEN_3, OPEN_11 + OPEN_10 + OPEN_3),
+    ("open checks 10 before 3", OPEN_3, OPEN_10 + OPEN_3),
+    ("open checks 3 before 1", OPEN_1,
+     "    if trace < TRACE_WORDS:\n        return no(3)\n" + OPEN_1),
+    ("open checks 10 before 1", OPEN_1,
+     "    if len(image) > 3 and image[3] >= L:\n        return no(10)\n" + OPEN_1),
+    ("open without 3", OPEN_3, "    if occupied(image):\n"),
+    ("open with 3 under 4 words alone, what it needs",
+     OPEN_3, "    if trace < 4:\n        return no(3)\n    if occupied(image):\n"),
+    ("open without 10", OPEN_10, ""),
+    ("open with 10 above L alone", "if ceiling(image) >= L:", "if ceiling(image) > L:"),
+    ("open with 10 at L - 1", "if ceiling(image) >= L:", "if ceiling(image) >= L - 1:"),
+    ("open with 10 where the raise comes to L", "if ceiling(image) >= L:", "if ceiling(image) + 1025 >= L:"),
+    ("open refused with 10 raises all the same",
+     "return result(refusal, new_desk(0, 0, 0), image)",
+     "return result(refusal, new_desk(0, 0, 0), image, raised(5) if refusal[\"number\"] == 10 else [])"),
+    ("open refused with 10 gives a desk", "return result(refusal, new_desk(0, 0, 0), image)",
+     "return result(refusal, new_desk(*([1, image[1], image[2]] if refusal[\"number\"] == 10\n"
+     "                                     else [0, 0, 0])), image)"),
+    ("open without a raise", OPEN_RAISE, "image[2]), image)"),
+    ("open's raise without its fence", OPEN_RAISE, "image[2]), image, raised(clock)[:1])"),
+    ("open's fence before its store", OPEN_RAISE, "image[2]), image, raised(clock)[::-1])"),
+    ("open's raise not listed", OPEN_RAISE, "image[2]), made(image, raised(clock)))"),
+    ("open's raise goes 1,024 past the old word 3", OPEN_RAISE, "image[2]), image, raised(clock - 1))"),
+    ("open's raise only where the clock passes 1,024", OPEN_RAISE,
+     "image[2]), image, raised(clock) if clock > 1 else [])"),
+    ("open sets the clock to word 3", "clock = ceiling(image) + 1\n", "clock = max(1, ceiling(image))\n"),
+    ("open sets the clock to 1", "clock = ceiling(image) + 1\n", "clock = 1\n"),
+    ("open sets the clock to the new word 3", "new_desk(clock, image[1], image[2]), image, raised(clock))",
+     "new_desk(clock + 1024, image[1], image[2]), image, raised(clock))"),
+    ("1,023 in place of 1,024", "RAISE = 1024", "RAISE = 1023"),
+    ("1,025 in place of 1,024", "RAISE = 1024", "RAISE = 1025"),
+    ("a raise stops at L", "[(3, clock + RAISE), FENCE]", "[(3, min(L, clock + RAISE)), FENCE]"),
+    ("a raise into word 2", "[(3, clock + RAISE), FENCE]", "[(2, clock + RAISE), FENCE]"),
+    ("publish without a raise", PUBLISH_RAISE, "entries = []"),
+    ("publish raises at word 3 already", PUBLISH_RAISE, PUBLISH_RAISE.replace(">", ">=")),
+    ("publish raises by the old clock", PUBLISH_RAISE, PUBLISH_RAISE.replace("if end >", "if end - 1 >")),
+    ("publish raises every time", PUBLISH_RAISE, "entries = raised(end)"),
+    ("publish raises from the old clock", PUBLISH_RAISE, PUBLISH_RAISE.replace("raised(end)", "raised(end - 1)")),
+    ("publish does not raise past L", PUBLISH_RAISE, PUBLISH_RAISE.replace("else", "and end < L else")),
+    ("publish refuses a raise past L", PUBLISH_RAISE, PUBLISH_RAISE + "\n"
+     "    if entries and end + RAISE > L:\n        return result(no(10), desk, image)"),
+    ("publish's raise without its fence", PUBLISH_RAISE, PUBLISH_RAISE.replace("raised(end)", "raised(end)[:1]")),
+    ("publish's raise not listed", PUBLISH_RAISE, PUBLISH_RAISE + "\n"
+     "    image, entries = made(image, entries), []"),
+    ("publish without stores has a fence", PUBLISH_RAISE, PUBLISH_RAISE.replace("[]", "[FENCE]")),
+    ("publish without 3", PUBLISH_CHECKS, PUBLISH_CHECKS.replace("trace", "None")),
+    ("publish with 3 only where it raises", PUBLISH_CHECKS, "turned_away(\n        desk, session, image,"
+     " trace if len(image) > 3 and desk[\"clock\"] == image[3] else None, phase=\"sealed\")"),
+    ("publish checks 3 last", PUBLISH_CHECKS, PUBLISH_CHECKS.replace("trace", "None")
+     + " \\\n        or (no(3) if trace < TRACE_WORDS else None)"),
+    ("publish checks 3 first", PUBLISH_CHECKS, "(no(3) if trace < TRACE_WORDS else None) or " + PUBLISH_CHECKS),
+    ("publish without 1 for the length", PUBLISH_CHECKS,
+     "turned_away(\n        desk, session, image if len(image) < 4 or image[0] != 1 else image[:4]"
+     " + [0] * (length(*image[1:3]) - 4),\n        trace, phase=\"sealed\")"),
+    ("publish leaves the clock", "dict(with_phase(desk, session, \"published\", end), clock=end),\n"
+     "                  image, entries)",
+     "with_phase(dict(desk, clock=end - (not entries)), session, \"published\", end),\n"
+     "                  image, entries)"),
+    ("the ceiling is never asked", "return image is None or desk[\"clock\"] <= ceiling(image)", "return True"),
+    ("the clock is to be below word 3",
+     "desk[\"clock\"] <= ceiling(image)", "desk[\"clock\"] < ceiling(image)"),
+    ("the new clock is to be at most word 3",
+     "desk[\"clock\"] <= ceiling(image)", "desk[\"clock\"] + 1 <= ceiling(image)"),
+    ("the ceiling is asked as far as L alone", "desk[\"clock\"] <= ceiling(image)",
+     "desk[\"clock\"] <= max(L, ceiling(image))"),
+    ("word 3 is compared in its low 63 bits", "desk[\"clock\"] <= ceiling(image)",
+     "desk[\"clock\"] <= ceiling(image) % 2 ** 63"),
+    *[("the ceiling is not asked in " + call, end + CALLED_WITH + "image", end + CALLED_WITH + UNASKED)
+      for call, end in ASKED.items()],
+    *[("the ceiling is asked in %s alone" % call, "desk[\"clock\"] <= ceiling(image)",
+       "desk[\"clock\"] <= ceiling(image)" + ALONE % call) for call in ("read", "publish")],
+    ("the ceiling is asked before 1", ASKS, ASKED_EARLY + ASKS.replace("turned_away", "checked")),
+    *[("the ceiling is asked after %d" % number, ASKS, ASKED_LATE % number + ASKS.replace("turned_away", "checked"))
+      for number in (3, 4, 5, 6)],
+    ("recover clears word 3", "[FENCE, clear, FENCE]", "[FENCE, clear, (3, 0), FENCE]"),
+    ("recover sets word 3 to the persist number", "[FENCE, clear, FENCE]",
+     "[FENCE, clear, (3, persist(image, place)), FENCE]"),
+    ("recover refuses word 3 at L or more", "    places = occupied(image)\n    bad",
+     "    if ceiling(image) >= L:\n        return result(no(10), image=image)\n"
+     "    places = occupied(image)\n    bad"),
+    ("lay leaves word 3", "[1, n, m, 0]", "[1, n, m, image[3]]"),
+    ("lay writes 1,025 into word 3", "[1, n, m, 0]", "[1, n, m, 1025]"),
+]
+
+# The same, of reelwalk.py.
+NO_CUT = "        if self.cut is None:\n"
+SHOWN_CUT = "shown = \"cut\" if done[\"entries\"] else text(done[\"answer\"])"
+ARRIVED = "done[\"entries\"][:self.cut]"
+TAKEN = "done = self.store.open_image(self.image, 48)\n        self.image, self.desk = done[\"image\"], done[\"desk\"]"
+WALK_FAULTS = [
+    ("a cut does not cover publish", NO_CUT, "        if self.cut is None or kind == 5:\n"),
+    ("a cut covers a publish with entries alone", NO_CUT,
+     "        if self.cut is None or (kind == 5 and not done[\"entries\"]):\n"),
+    ("a cut does not cover a refused publish", NO_CUT,
+     "        if self.cut is None or (kind == 5 and done[\"answer\"][\"number\"]):\n"),
+    ("a cut publish without entries keeps the desk", NO_CUT,
+     "        self.cut = None if kind == 5 and not done[\"entries\"] else self.cut\n" + NO_CUT),
+    ("a publish without entries is shown as cut", SHOWN_CUT,
+     SHOWN_CUT.replace("if done[\"entries\"]", "if done[\"entries\"] or done[\"answer\"][\"name\"] == \"end\"")),
+    ("a cut publish shows its end", SHOWN_CUT, SHOWN_CUT.replace("done[\"entries\"]", "done[\"entries\"] and kind != 5")),
+    ("all entries of a cut publish arrive", ARRIVED, "done[\"entries\"][:2 if kind == 5 else self.cut]"),
+    ("no entries of a cut publish arrive", ARRIVED, "done[\"entries\"][:0 if kind == 5 else self.cut]"),
+    ("the cut stays after a publish", "        self.cut = None\n        return [[shown]]",
+     "        self.cut = self.cut if kind == 5 else None\n        return [[shown]]"),
+    ("the raise of an opening is lost", TAKEN, TAKEN.split("\n")[0] + "\n"
+     "        self.image = done[\"image\"]\n"
+     "        self.image, self.desk = self.store.made(self.image, [(3, done[\"desk\"][\"clock\"])]), done[\"desk\"]"),
+    ("a cut is also one of the opening behind it", "        self.open()\n        return lines + [\"open\"]",
+     "        before = self.image\n        self.open()\n"
+     "        self.image = before if not lines else self.image\n        return lines + [\"open\"]"),
+    ("word 3 laid anew after a cut", "        self.open()\n        return lines + [\"open\"]",
+     "        self.image = self.image[:3] + [0] + self.image[4:]\n        self.open()\n"
+     "        return lines + [\"open\"]"),
 ]
 
 # The same, of reels.py.
@@ -1418,6 +1972,7 @@ LISTENING_FAULTS = [
     ("15 after 18", "if not reels.shelf_right(number):", "if not reels.shelf_right(number)"
      " and desk[\"sessions\"][session % 16][\"count\"] == 0:"),
     *[("18 before %d" % number, CHECKS, HOLDS_FIRST % number) for number in range(1, 7)],
+    ("the ceiling is not asked in the room", CHECKS, CHECKS.replace("image", UNASKED)),
     ("18 never", "[\"count\"] != 0:", "[\"count\"] > 4:"),
     ("18 with two copies or more", "[\"count\"] != 0:", "[\"count\"] > 1:"),
     ("18 with three copies at most", "[\"count\"] != 0:", "[\"count\"] in (1, 2, 3):"),
@@ -1462,7 +2017,9 @@ LISTENING_FAULTS = [
 
 # File, its module, the tests that are run on copies of it, those that each must catch every fault alone, and
 # the faults.
-PLANTED = [("store.py", store, BY_STORE, [], STORE_FAULTS), ("reels.py", reels, BY_REELS, [], REEL_FAULTS),
+PLANTED = [("store.py", store, BY_STORE, [], STORE_FAULTS),
+           ("store.py", store, BY_CEILING, [ceiling_cases], CEILING_FAULTS),
+           ("reelwalk.py", reelwalk, BY_WALK, [], WALK_FAULTS), ("reels.py", reels, BY_REELS, [], REEL_FAULTS),
            ("listening.py", listening, BY_LISTENING, [listening_cases], LISTENING_FAULTS)]
 
 

@@ -18,7 +18,7 @@ use Rattle.commit.specs.Finish.{finishReply}
 use Rattle.commit.specs.Settle.{settleReply}
 use Rattle.commit.specs.Reclaim.{reclaimReply}
 use Rattle.commit.specs.Told.{finishTold, settleTold, reclaimTold}
-use Rattle.recovery.specs.Open.{openReply}
+use Rattle.recovery.specs.Open.{openReply, openEntries}
 use Rattle.recovery.specs.Recover.{recoverReply, recoverEntries}
 use Rattle.recovery.specs.Told.{openTold, recoverTold}
 use Rattle.codec.specs.declared.step.Step.{Step}
@@ -37,8 +37,9 @@ abbrev pub layAnswered : List ℕ → Desk → ℕ → ℕ → Answered
 layAnswered img d n m = answeredOf (codedOf (layTold (layAnswer n m img))) zeroWords 0 d
 
 -- open gives its desk
-abbrev pub openAnswered : List ℕ → Answered
-openAnswered img = answeredOf (codedOf (openTold (openReply img .answer))) zeroWords 0 (openReply img .desk)
+abbrev pub openAnswered : List ℕ → ℕ → Answered
+openAnswered img len =
+    answeredOf (codedOf (openTold (openReply img len .answer))) zeroWords (openReply img len .entries) (openReply img len .desk)
 
 -- recover leaves no desk either
 abbrev pub recoverAnswered : List ℕ → Desk → ℕ → Answered
@@ -51,7 +52,7 @@ stepCoded img d len (Begin s) ws = codedOf (beginTold (beginReply d s .answer))
 stepCoded img d len (Read s r) ws = codedOf (readTold (readReply img d s r .answer) (readReply img d s r .words))
 stepCoded img d len (Write s r) ws = codedOf (writeTold (writeReply img d s r ws .answer))
 stepCoded img d len (Finish s) ws = codedOf (finishTold (finishReply img d len s .answer))
-stepCoded img d len (Publish s) ws = codedOf (publishTold (publishReply d s .answer))
+stepCoded img d len (Publish s) ws = codedOf (publishTold (publishReply img d len s .answer))
 stepCoded img d len (Settle s) ws = codedOf (settleTold (settleReply img d len s .answer))
 stepCoded img d len (Reclaim s) ws = codedOf (reclaimTold (reclaimReply img d len s .answer))
 stepCoded img d len (Abandon s) ws = codedOf (abandonTold (abandonReply d s .answer))
@@ -65,6 +66,13 @@ stepAnswered img d len step ws =
     (appliedOf img d len step ws .words)
     (appliedOf img d len step ws .entries)
     (appliedOf img d len step ws .desk)
+
+-- the image and the trace that open leaves
+abbrev pub openImage : List ℕ → ℕ → List ℕ
+openImage img len = made (openEntries img len) img
+
+abbrev pub openTrace : List ℕ → List ℕ → List ℕ
+openTrace img trace = listed (openEntries img (length trace)) trace
 
 -- the image and the trace that recover leaves
 abbrev pub recoverImage : List ℕ → ℕ → List ℕ
@@ -83,7 +91,7 @@ stepTrace img d trace step = listed (appliedEntries img d (length trace) step) t
 -- what a request is answered, on an image, a desk and a trace of this length; `ws` are the words of a write
 unfoldable pub askedOf : List ℕ → Desk → ℕ → Request → List ℕ → Answered
 askedOf img d len (Lay n m) ws = layAnswered img d n m
-askedOf img d len Open ws = openAnswered img
+askedOf img d len Open ws = openAnswered img len
 askedOf img d len Recover ws = recoverAnswered img d len
 askedOf img d len (Session step) ws = stepAnswered img d len step ws
 askedOf img d len (Reel call) ws = reelAnswered img d call ws
@@ -92,7 +100,7 @@ askedOf img d len (Listening call) ws = listeningAnswered img d len call
 -- the image that it leaves
 unfoldable pub askedImage : List ℕ → Desk → ℕ → Request → List ℕ
 askedImage img d len (Lay n m) = laidImage n m img
-askedImage img d len Open = img
+askedImage img d len Open = openImage img len
 askedImage img d len Recover = recoverImage img len
 askedImage img d len (Session step) = stepImage img d len step
 askedImage img d len (Reel call) = img
@@ -101,7 +109,7 @@ askedImage img d len (Listening call) = img
 -- the trace that it leaves
 unfoldable pub askedTrace : List ℕ → Desk → List ℕ → Request → List ℕ
 askedTrace img d trace (Lay n m) = trace
-askedTrace img d trace Open = trace
+askedTrace img d trace Open = openTrace img trace
 askedTrace img d trace Recover = recoverTrace img trace
 askedTrace img d trace (Session step) = stepTrace img d trace step
 askedTrace img d trace (Reel call) = trace

@@ -3,7 +3,7 @@ ghost use mathlib.Core.Path.{_≡_};
 ghost use lib.ListN.{length};
 ghost use Rattle.layout.specs.Lay.{laidImage};
 ghost use Rattle.cases.specs.Ask.{layAnswered, openAnswered, recoverAnswered, stepAnswered};
-ghost use Rattle.cases.specs.Ask.{recoverImage, recoverTrace, stepImage, stepTrace, askedOf, askedImage, askedTrace};
+ghost use Rattle.cases.specs.Ask.{openImage, openTrace, recoverImage, recoverTrace, stepImage, stepTrace, askedOf, askedImage, askedTrace};
 ghost use Rattle.cases.specs.Coded.{answeredOf};
 use crate::listening_asking::ListeningRequest;
 use crate::listening_asking::ask_listening;
@@ -57,13 +57,15 @@ fn ask_lay(image: &mut [u64], desk: Desk, n: u64, m: u64) -> Answered
     gives(lay_told(a), [0; 4], 0, desk)
 }
 
-fn ask_open(image: &[u64]) -> Answered
-    ensures { λ r. ⌜ r ≡ openAnswered (now (image .entry)) ⌝ }
+fn ask_open(image: &mut [u64], trace: &mut [u64]) -> Answered
+    ensures reply { λ r. ⌜ r ≡ openAnswered (now (image .entry)) (length (now (trace .entry))) ⌝ }
+    ensures image { λ r. ⌜ now (image .exit) ≡ openImage (now (image .entry)) (length (now (trace .entry))) ⌝ }
+    ensures trace { λ r. ⌜ now (trace .exit) ≡ openTrace (now (image .entry)) (now (trace .entry)) ⌝ }
 {
-    let r = store::open(image);
+    let r = store::open(image, trace);
     let a = r.answer;
     let d = r.desk;
-    gives(open_told(a), [0; 4], 0, d)
+    gives(open_told(a), [0; 4], r.entries, d)
 }
 
 fn ask_recover(image: &mut [u64], desk: Desk, trace: &mut [u64]) -> Answered
@@ -108,7 +110,7 @@ pub fn ask(
 {
     match request {
         Request::Lay(n, m) => ask_lay(image, desk, n, m),
-        Request::Open => ask_open(image),
+        Request::Open => ask_open(image, trace),
         Request::Recover => ask_recover(image, desk, trace),
         Request::Session(step) => ask_step(image, desk, trace, step, words),
         Request::Reel(r) => ask_reel(image, desk, r, words),

@@ -195,7 +195,7 @@ module _ (N M : ℕ) (w : World) (a : Along N M w) (h : History)
   call-right (write s r ws) = tt
   call-right (abandon s) = tt
   call-right (finish len s) = tt
-  call-right (publish s) = tt
+  call-right (publish len s) = tt
   call-right (settle len s) = tt
   call-right (reclaim len s) = tt
   call-right (listen c) = listening-right c

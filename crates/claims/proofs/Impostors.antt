@@ -21,7 +21,10 @@ use Rattle.layout.specs.Told.{Told, ok, start, home, wait, nothing, held, clean
 use Rattle.layout.proofs.Says.{by-test}
 use Rattle.journal.specs.Log.{bodyWrites, unsoundB, sharedB}
 use Rattle.layout.specs.Oldest.{oldestOf}
-use Rattle.desk.specs.Desk.{sessionAt, markAt, isSealed}
+use Rattle.desk.specs.Coherent.{freshB, placesOk, sessionOk, copiesB, coherentB}
+use Rattle.desk.specs.Desk.{sessionAt, markAt, isSealed, idleSession}
+use Rattle.desk.specs.Entering.{entryFault}
+use Rattle.desk.specs.Publish.{publishFault, publishEntries, publishReply}
 use Rattle.desk.specs.declared.state.Phase.{Phase}
 use Rattle.desk.specs.declared.state.Phase.the-variants.{Idle, Active, Sealed, Published}
 use Rattle.desk.specs.declared.state.Desk.{Desk}
@@ -29,20 +32,23 @@ use Rattle.layout.specs.Tidy.{Tidy}
 use Rattle.commit.specs.Finish.{finishFault}
 use Rattle.commit.specs.Settle.{endOf, startBelow, startsFor}
 use Rattle.commit.specs.Reclaim.{clearEntries}
-use Rattle.recovery.specs.Open.{openFault, openReply}
+use Rattle.recovery.specs.Open.{openFault, openEntries, openReply}
 use Rattle.recovery.specs.Recover.{unsoundPlace, tiedBelow, tiesB, recoverFault, firstLog, recoverRefused, recoverReply, recoverEntries}
 use Rattle.history.specs.Call.{Begin, Find, Call, begin, read, write, finish, publish, settle, reclaim, listen}
 use Rattle.history.specs.Desk.{Copy, Session as Txn, idle, active, sealed, published, Desk as Txns, upd, firstOf, holder}
-use Rattle.history.specs.Due.{smallest, due}
+use Rattle.history.specs.Due.{raiseStores, smallest, due}
 use Rattle.history.specs.Cut.{feedCut}
 use Rattle.history.specs.History.{History, feed}
 use Rattle.history.specs.Ledger.{Ledger, note}
 use Rattle.history.specs.Looks.{Looks}
 use Rattle.claims.specs.Rules.{Reply, Rules, searching, storeRules}
-use Rattle.claims.specs.Run.{World, opened, openLedger, reply, step, run, stored}
+use Rattle.claims.specs.Run.{World, opened, openLedger, reply, step, run, stored, sinceOpening}
 use Rattle.claims.specs.Recovery.{replays, afterCalls, afterStop, afterAttempts, afterWhole, Ends}
-use Rattle.claims.specs.Demands.{Demand2, Demand3, Cut, during, cutImage, cutHistory, FindRight, Recovered}
-use Rattle.claims.specs.Impostors.{Impostors, Change, kindOf, past, telling, relisting, zeroing, miscounting, clearingEarly, waitingForAll, showingSealed, busyOther, heldSealed, sealedCopy, turnsAway, waitsAtOnce, holdsAtOnce, readsZeros, zeroed, doesNothing, storesNothing, saysClean, clearing, clearsOthers, withoutLast, unfencedAt, replaysOne, miscounts, unfenced, oneGroup, sessionOrder, clearsEarly, waitsForAll, showsSealed, namingBy, names, lowestReader, lastReader, newestReader, asRead, asHome, Search, firstEnd, lastEnd, earlyEnd, findingBy, findsBy}
+use Rattle.claims.specs.Demands.{Demand2, OpeningStores, PublishStores, Demand3, Cut, during, cutImage, cutHistory, FindRight, Recovered}
+use Rattle.claims.specs.Edges.{deskOf, oneMark, oneCopy}
+use Rattle.claims.specs.Lives.{Life, AllCome, afterLife, afterLives}
+use Rattle.claims.specs.Fresh.{numberGiven, Gives, Fresh}
+use Rattle.claims.specs.Impostors.{Impostors, Change, kindOf, past, telling, relisting, zeroing, miscounting, clearingEarly, waitingForAll, showingSealed, busyOther, heldSealed, sealedCopy, turnsAway, waitsAtOnce, holdsAtOnce, readsZeros, zeroed, doesNothing, storesNothing, saysClean, clearing, clearsOthers, withoutLast, unfencedAt, replaysOne, miscounts, unfenced, oneGroup, sessionOrder, clearsEarly, waitsForAll, showsSealed, namingBy, names, lowestReader, lastReader, newestReader, asRead, asHome, Search, firstEnd, lastEnd, earlyEnd, findingBy, findsBy, openingBy, clockAlone}
 use Rattle.claims.proofs.Abstraction.{txn-of, copiesOf, pack, marked}
 use Rattle.claims.proofs.Entering.{holder-named}
 use Rattle.claims.proofs.Along.{Along, same, step-along, run-along, opened-along, call-fenced}
@@ -93,29 +99,33 @@ stored-seen (c ∷ cs) w a =
 -- ---- from the opening
 
 -- what is computed of an opening and of recovery
-opens : storeRules .opens image .told ≡ ok
+opens : storeRules .opens image 48 .told ≡ ok
 unfolding allBelow anyBelow first answered shapedB occupiedB openFault openReply
 opens = refl
 
+-- the image behind it, whose ceiling is 1,025, and its ledger
+abbrev first-seen : Seen
+first-seen = record { image = made (raiseStores 1) image; ledger = openLedger image }
+
 -- the store's world after the calls, and what is due; `unfolding expected` opens all that is computed here
 after : List Call → World
-after calls = run storeRules calls (opened storeRules image)
+after calls = run storeRules calls (opened storeRules image 48)
 
 expected : List Call → Seen
-unfolding allBelow anyBelow countBelow lowest first answered shapedB occupiedB homesWrites bodyWrites unsoundB sharedB oldestOf openFault openReply unsoundPlace tiedBelow tiesB recoverFault firstLog recoverRefused recoverReply recoverEntries note due smallest reply upd firstOf seen due-stored replays afterAttempts clearing
-expected calls = seen calls (record { image = image; ledger = openLedger image })
+unfolding allBelow anyBelow countBelow lowest first answered shapedB occupiedB homesWrites bodyWrites unsoundB sharedB oldestOf openFault openEntries openReply unsoundPlace tiedBelow tiesB recoverFault firstLog recoverRefused recoverReply recoverEntries note due smallest reply upd firstOf seen due-stored replays afterAttempts clearing
+expected calls = seen calls first-seen
 
-after-is : (calls : List Call) → run storeRules calls (opened storeRules image) ≡ after calls
+after-is : (calls : List Call) → run storeRules calls (opened storeRules image 48) ≡ after calls
 unfolding after
 after-is calls = refl
 
 along : (calls : List Call) → Along 2 4 (after calls)
 unfolding after
-along calls = run-along 2 4 calls _ (opened-along image opens)
+along calls = run-along 2 4 calls _ (opened-along image 48 opens)
 
 after-expected : (calls : List Call) → shown (after calls) ≡ expected calls
 unfolding after expected
-after-expected calls = run-seen calls _ (opened-along image opens)
+after-expected calls = run-seen calls _ (opened-along image 48 opens)
 
 -- what the store tells and stores next
 told-next : (calls : List Call) (c : Call) → reply storeRules (after calls) c .told ≡ due 2 4 (expected calls .ledger) c .answer
@@ -168,14 +178,14 @@ abbrev opening-as : Rules → Rules
 opening-as R = record { opens = storeRules .opens; call = R .call; recover = R .recover }
 
 module _ (R : Rules) (calls : List Call) (a : Alike (opening-as R) calls) where
-  ran : run (opening-as R) calls (opened storeRules image) ≡ after calls
+  ran : run (opening-as R) calls (opened storeRules image 48) ≡ after calls
   unfolding after
-  ran = alike-run (opening-as R) calls (opened storeRules image) a
+  ran = alike-run (opening-as R) calls (opened storeRules image 48) a
 
   -- demand 2 of the call c
   answers : Demand2 (opening-as R) → (c : Call) → reply (opening-as R) (after calls) c .told ≡ due 2 4 (expected calls .ledger) c .answer
   answers h c =
-      subst (λ (w : World). reply (opening-as R) w c .told ≡ due 2 4 (w .ledger) c .answer) ran (h image opens calls c)
+      subst (λ (w : World). reply (opening-as R) w c .told ≡ due 2 4 (w .ledger) c .answer) ran (h image 48 opens calls c)
       ∙ ap (λ (v : Seen). due 2 4 (v .ledger) c .answer) (after-expected calls)
 
 -- ---- the runs
@@ -190,7 +200,7 @@ sealing s r x = begin s ∷ write s r (x ∷ 6 ∷ 7 ∷ 8 ∷ []) ∷ finish 48
 
 -- session 1 settles record 0; then session 0 seals it, so that the older log has the higher place
 abbrev publishing : List Call
-publishing = sealing 1 0 5 ++ publish 1 ∷ []
+publishing = sealing 1 0 5 ++ publish 48 1 ∷ []
 
 abbrev settling : List Call
 settling = publishing ++ settle 48 1 ∷ []
@@ -229,7 +239,7 @@ reads-zeros h = unlike-words (ap zeroed (sym (told-next writing (read 1 0))) ∙
 -- a session begins twice: a start is due, then 6
 does-nothing : Demand2 doesNothing → ⊥
 unfolding expected run step after
-does-nothing h = go (reply storeRules (after []) (begin 0) .told) (told-next [] (begin 0)) (h image opens (begin 0 ∷ []) (begin 0))
+does-nothing h = go (reply storeRules (after []) (begin 0) .told) (told-next [] (begin 0)) (h image 48 opens (begin 0 ∷ []) (begin 0))
   where
     go : (t : Told) → t ≡ start 1 → t ≡ due 2 4 (note (begin 0) t (openLedger image)) (begin 0) .answer → ⊥
     go t e f = unlike-told (sym e ∙ f ∙ ap (λ (u : Told). due 2 4 (note (begin 0) u (openLedger image)) (begin 0) .answer) e) refl
@@ -264,7 +274,7 @@ waits-for-all h =
     (sym (go (reply storeRules (after calls) (settle 48 0)) (told-next calls (settle 48 0))) ∙ past-answers 6 waitingForAll calls (settle 48 0) refl refl (search depth 9) h) refl
   where
     calls : List Call
-    calls = sealing 1 0 5 ++ sealing 0 1 9 ++ publish 0 ∷ []
+    calls = sealing 1 0 5 ++ sealing 0 1 9 ++ publish 48 0 ∷ []
 
     d : Desk
     d = after calls .desk
@@ -353,7 +363,7 @@ named pick calls s v w a h =
 
 -- session 2 reads from the start on and session 0 from the end of session 3 on, both below the end of session 1
 abbrev waiting : List Call
-waiting = begin 2 ∷ sealing 3 0 5 ++ publish 3 ∷ begin 0 ∷ sealing 1 1 9 ++ publish 1 ∷ []
+waiting = begin 2 ∷ sealing 3 0 5 ++ publish 48 3 ∷ begin 0 ∷ sealing 1 1 9 ++ publish 48 1 ∷ []
 
 names-lowest : Demand2 (names lowestReader) → ⊥
 unfolding expected
@@ -366,32 +376,35 @@ names-newest h = eqb-false _ _ refl (named newestReader waiting 1 2 refl (search
 -- sessions 0 and 1 have equal starts
 names-last : Demand2 (names lastReader) → ⊥
 unfolding expected
-names-last h = eqb-false _ _ refl (named lastReader (begin 0 ∷ begin 1 ∷ sealing 2 0 5 ++ publish 2 ∷ []) 2 0 refl (search depth 9) h)
+names-last h = eqb-false _ _ refl (named lastReader (begin 0 ∷ begin 1 ∷ sealing 2 0 5 ++ publish 48 2 ∷ []) 2 0 refl (search depth 9) h)
 
 -- ---- demand 3
 
--- the first opening, and the list that ends before a call
-abbrev first-seen : Seen
-first-seen = record { image = image; ledger = openLedger image }
+-- all that is due to be stored since the opening
+abbrev since : List Call → List Entry
+since calls = raiseStores 1 ++ due-stored calls first-seen
 
--- all that is stored by the calls, where R does what the store does
+-- all that is stored, where R does what the store does
 module _ (R : Rules) (calls : List Call) (a : Alike (opening-as R) calls) where
-  stored-expected : stored (opening-as R) calls (opened storeRules image) ≡ due-stored calls first-seen
-  stored-expected = alike-stored (opening-as R) calls (opened storeRules image) a ∙ stored-seen calls (opened storeRules image) (opened-along image opens)
+  stored-expected : sinceOpening (opening-as R) image 48 calls ≡ since calls
+  unfolding openEntries openFault first answered shapedB occupiedB anyBelow
+  stored-expected =
+      ap (λ (es : List Entry). raiseStores 1 ++ es)
+      (alike-stored (opening-as R) calls (opened storeRules image 48) a ∙ stored-seen calls (opened storeRules image 48) (opened-along image 48 opens))
 
   -- a cut in the call c behind them
   cut-expected : (c : Call) (k : ℕ) (sel : ℕ → Bool) (es : List Entry) → reply (opening-as R) (after calls) c .entries ≡ es
-      → cutImage (opening-as R) image (during calls c k sel) ≡ arrived sel 0 (due-stored calls first-seen ++ take k es) image
+      → cutImage (opening-as R) image 48 (during calls c k sel) ≡ arrived sel 0 (since calls ++ take k es) image
   cut-expected c k sel es e =
-      ap (λ (xs : List Entry). arrived sel 0 (xs ++ take k (reply (opening-as R) (run (opening-as R) calls (opened storeRules image)) c .entries)) image) stored-expected
-      ∙ ap (λ (w : World). arrived sel 0 (due-stored calls first-seen ++ take k (reply (opening-as R) w c .entries)) image) (ran R calls a)
-      ∙ ap (λ (xs : List Entry). arrived sel 0 (due-stored calls first-seen ++ take k xs) image) e
+      ap (λ (xs : List Entry). arrived sel 0 (xs ++ take k (reply (opening-as R) (run (opening-as R) calls (opened storeRules image 48)) c .entries)) image) stored-expected
+      ∙ ap (λ (w : World). arrived sel 0 (since calls ++ take k (reply (opening-as R) w c .entries)) image) (ran R calls a)
+      ∙ ap (λ (xs : List Entry). arrived sel 0 (since calls ++ take k xs) image) e
 
-  history-expected : (c : Call) (k : ℕ) (sel : ℕ → Bool) (t : Told) → reply (opening-as R) (after calls) c .told ≡ t → (img : List ℕ) → cutImage (opening-as R) image (during calls c k sel) ≡ img
-      → cutHistory (opening-as R) image (during calls c k sel) ≡ feedCut 2 (expected calls .ledger .desk) c t img (expected calls .ledger .history)
+  history-expected : (c : Call) (k : ℕ) (sel : ℕ → Bool) (t : Told) → reply (opening-as R) (after calls) c .told ≡ t → (img : List ℕ) → cutImage (opening-as R) image 48 (during calls c k sel) ≡ img
+      → cutHistory (opening-as R) image 48 (during calls c k sel) ≡ feedCut 2 (expected calls .ledger .desk) c t img (expected calls .ledger .history)
   history-expected c k sel t e img i =
-      ap (λ (j : List ℕ). feedCut 2 (run (opening-as R) calls (opened storeRules image) .ledger .desk) c (reply (opening-as R) (run (opening-as R) calls (opened storeRules image)) c .told) j
-      (run (opening-as R) calls (opened storeRules image) .ledger .history)) i
+      ap (λ (j : List ℕ). feedCut 2 (run (opening-as R) calls (opened storeRules image 48) .ledger .desk) c (reply (opening-as R) (run (opening-as R) calls (opened storeRules image 48)) c .told) j
+      (run (opening-as R) calls (opened storeRules image 48) .ledger .history)) i
       ∙ ap (λ (w : World). feedCut 2 (w .ledger .desk) c (reply (opening-as R) w c .told) img (w .ledger .history)) (ran R calls a)
       ∙ ap (λ (u : Told). feedCut 2 (after calls .ledger .desk) c u img (after calls .ledger .history)) e
       ∙ ap (λ (v : Seen). feedCut 2 (v .ledger .desk) c t img (v .ledger .history)) (after-expected calls)
@@ -401,26 +414,26 @@ unlike : {xs ys : List ℕ} → xs ≡ ys → eqb (getD xs 0 0) (getD ys 0 0) �
 unlike e b = eqb-false _ _ b (ap (λ (l : List ℕ). getD l 0 0) e)
 
 -- what demand 3 says of a cut that leaves img and the history h, once whole calls of recover have come to "clean"
-recovers : (R : Rules) → Demand3 (opening-as R) → (cut : Cut) (img : List ℕ) (h : History) → cutImage (opening-as R) image cut ≡ img
-    → cutHistory (opening-as R) image cut ≡ h → (whole : List ℕ) → R .recover (afterCalls (opening-as R) whole img) 48 .told ≡ clean
-    → Recovered (opening-as R) image h (afterStop (opening-as R) (whole ++ (48 ∷ [])) (λ n. true) img)
+recovers : (R : Rules) → Demand3 (opening-as R) → (cut : Cut) (img : List ℕ) (h : History) → cutImage (opening-as R) image 48 cut ≡ img
+    → cutHistory (opening-as R) image 48 cut ≡ h → (whole : List ℕ) → R .recover (afterCalls (opening-as R) whole img) 48 .told ≡ clean
+    → Recovered (opening-as R) image img h (afterStop (opening-as R) (whole ++ (48 ∷ [])) (λ n. true) img)
 unfolding afterAttempts
 recovers R d cut img h i e whole c =
-    subst (λ (k : History). Recovered (opening-as R) image k (afterStop (opening-as R) (whole ++ (48 ∷ [])) (λ n. true) img)) e
+    subst (λ (k : History). Recovered (opening-as R) image img k (afterStop (opening-as R) (whole ++ (48 ∷ [])) (λ n. true) img)) e
     (subst (λ (j : List ℕ). R .recover (afterCalls (opening-as R) whole j) 48 .told ≡ clean
-    → Recovered (opening-as R) image (cutHistory (opening-as R) image cut) (afterStop (opening-as R) (whole ++ (48 ∷ [])) (λ n. true) j)) i
-    (d image opens cut [] .clean-right whole 48 (λ n. true)) c)
+    → Recovered (opening-as R) image j (cutHistory (opening-as R) image 48 cut) (afterStop (opening-as R) (whole ++ (48 ∷ [])) (λ n. true) j)) i
+    (d image 48 opens cut [] .clean-right whole 48 (λ n. true)) c)
 
 -- power fails between two calls
-module _ (R : Rules) (calls : List Call) (a : Alike (opening-as R) calls) (b : (w : World) → reply (opening-as R) w (publish 1) .entries ≡ []) where
+module _ (R : Rules) (calls : List Call) (a : Alike (opening-as R) calls) (b : (w : World) → reply (opening-as R) w (begin 1) .entries ≡ []) where
   abbrev left : List ℕ
-  left = arrived (λ n. true) 0 (due-stored calls first-seen ++ []) image
+  left = arrived (λ n. true) 0 (since calls ++ []) image
 
   between : Demand3 (opening-as R) → (whole : List ℕ) → R .recover (afterCalls (opening-as R) whole left) 48 .told ≡ clean
-      → Recovered (opening-as R) image (expected calls .ledger .history) (afterStop (opening-as R) (whole ++ (48 ∷ [])) (λ n. true) left)
+      → Recovered (opening-as R) image left (expected calls .ledger .history) (afterStop (opening-as R) (whole ++ (48 ∷ [])) (λ n. true) left)
   between d whole c =
-      recovers R d (during calls (publish 1) 0 (λ n. true)) left _ (cut-expected R calls a (publish 1) 0 (λ n. true) [] (b (after calls)))
-      (history-expected R calls a (publish 1) 0 (λ n. true) _ refl left (cut-expected R calls a (publish 1) 0 (λ n. true) [] (b (after calls)))) whole c
+      recovers R d (during calls (begin 1) 0 (λ n. true)) left _ (cut-expected R calls a (begin 1) 0 (λ n. true) [] (b (after calls)))
+      (history-expected R calls a (begin 1) 0 (λ n. true) _ refl left (cut-expected R calls a (begin 1) 0 (λ n. true) [] (b (after calls)))) whole c
 
 -- nothing is restored
 says-clean : Demand3 saysClean → ⊥
@@ -440,7 +453,7 @@ session-order h = unlike (between sessionOrder twice (search depth 10) (λ w. re
 -- a log is left
 replays-one : Demand3 replaysOne → ⊥
 unfolding expected
-replays-one h = unlike-told (between replaysOne twice (search depth 10) (λ w. refl) h [] refl .opens) refl
+replays-one h = unlike-told (between replaysOne twice (search depth 10) (λ w. refl) h [] refl .opens 0) refl
 
 -- ---- a list that is changed
 
@@ -470,35 +483,36 @@ module _ (kind : ℕ) (g : List Entry → List Entry) (calls : List Call) (c : C
   relisted-entries : reply Q (after calls) c .entries ≡ g (due 2 4 (expected calls .ledger) c .entries)
   relisted-entries = ap (λ (y : Reply). y .entries) (changed kind (relisting g) calls c k n) ∙ ap g (stores-next calls c)
 
-  relisted-stored : stored Q (calls ++ (c ∷ [])) (opened storeRules image) ≡ due-stored calls first-seen ++ g (due 2 4 (expected calls .ledger) c .entries)
+  relisted-stored : sinceOpening Q image 48 (calls ++ (c ∷ [])) ≡ since calls ++ g (due 2 4 (expected calls .ledger) c .entries)
   relisted-stored =
-      stored-last Q calls c (opened storeRules image)
-      ∙ ap (λ (es : List Entry). es ++ reply Q (run Q calls (opened storeRules image)) c .entries) (stored-expected (past kind (relisting g)) calls a)
-      ∙ ap (λ (w : World). due-stored calls first-seen ++ reply Q w c .entries) (ran (past kind (relisting g)) calls a)
-      ∙ ap (λ (es : List Entry). due-stored calls first-seen ++ es) relisted-entries
+      ap (λ (es : List Entry). openEntries image 48 ++ es) (stored-last Q calls c (opened storeRules image 48))
+      ∙ sym (append-assoc (openEntries image 48) (stored Q calls (opened storeRules image 48)) _)
+      ∙ ap (λ (es : List Entry). es ++ reply Q (run Q calls (opened storeRules image 48)) c .entries) (stored-expected (past kind (relisting g)) calls a)
+      ∙ ap (λ (w : World). since calls ++ reply Q w c .entries) (ran (past kind (relisting g)) calls a)
+      ∙ ap (λ (es : List Entry). since calls ++ es) relisted-entries
 
   -- power fails behind it, and of what no fence follows nothing has arrived
   abbrev behind : Cut
   behind = during (calls ++ (c ∷ [])) (begin 0) 0 (λ i. false)
 
   abbrev left-behind : List ℕ
-  left-behind = arrived (λ i. false) 0 ((due-stored calls first-seen ++ g (due 2 4 (expected calls .ledger) c .entries)) ++ []) image
+  left-behind = arrived (λ i. false) 0 ((since calls ++ g (due 2 4 (expected calls .ledger) c .entries)) ++ []) image
 
-  behind-history : cutHistory Q image behind ≡ feed c (due 2 4 (expected calls .ledger) c .answer) (expected calls .ledger .history)
+  behind-history : cutHistory Q image 48 behind ≡ feed c (due 2 4 (expected calls .ledger) c .answer) (expected calls .ledger .history)
   unfolding step note
   behind-history =
-      ap (λ (w : World). w .ledger .history) (run-last Q calls c (opened storeRules image))
+      ap (λ (w : World). w .ledger .history) (run-last Q calls c (opened storeRules image 48))
       ∙ ap (λ (w : World). feed c (reply Q w c .told) (w .ledger .history)) (ran (past kind (relisting g)) calls a)
       ∙ ap (λ (t : Told). feed c t (after calls .ledger .history)) relisted-told
       ∙ ap (λ (v : Seen). feed c (due 2 4 (expected calls .ledger) c .answer) (v .ledger .history)) (after-expected calls)
 
   recovers-behind : Demand3 Q → (whole : List ℕ) → Q .recover (afterCalls Q whole left-behind) 48 .told ≡ clean
-      → Recovered Q image (feed c (due 2 4 (expected calls .ledger) c .answer) (expected calls .ledger .history))
+      → Recovered Q image left-behind (feed c (due 2 4 (expected calls .ledger) c .answer) (expected calls .ledger .history))
       (afterStop Q (whole ++ (48 ∷ [])) (λ i. true) left-behind)
   unfolding reply
   recovers-behind d whole e =
       recovers (past kind (relisting g)) d behind left-behind _
-      (ap (λ (es : List Entry). arrived (λ i. false) 0 (es ++ take 0 (reply Q (run Q (calls ++ (c ∷ [])) (opened storeRules image)) (begin 0) .entries)) image) relisted-stored)
+      (ap (λ (es : List Entry). arrived (λ i. false) 0 (es ++ take 0 (reply Q (run Q (calls ++ (c ∷ [])) (opened storeRules image 48)) (begin 0) .entries)) image) relisted-stored)
       behind-history whole e
 
 -- nothing is stored
@@ -527,13 +541,13 @@ stuck R img b e = go (e .calls) (e .replayed-each) (e .then-clean)
 -- of the log only the persist number has arrived
 one-group : Demand3 oneGroup → ⊥
 unfolding expected
-one-group h = stuck oneGroup _ refl (subst (λ (j : List ℕ). Ends oneGroup (λ i. 0) j) image-is (h image opens cut [] .ends (λ i. 0)))
+one-group h = stuck oneGroup _ refl (subst (λ (j : List ℕ). Ends oneGroup (λ i. 0) j) image-is (h image 48 opens cut [] .ends (λ i. 0)))
   where
     cut : Cut
-    cut = during writing (finish 48 1) 7 (λ n. eqb n 6)
+    cut = during writing (finish 48 1) 7 (λ n. eqb n 8)
 
-    image-is : cutImage oneGroup image cut ≡ arrived (λ n. eqb n 6) 0 (due-stored writing first-seen ++ take 7 (unfenced (due 2 4 (expected writing .ledger) (finish 48 1) .entries))) image
-    image-is = cut-expected oneGroup writing (search) (finish 48 1) 7 (λ n. eqb n 6) _ (relisted-entries 4 unfenced writing (finish 48 1) refl refl (search))
+    image-is : cutImage oneGroup image 48 cut ≡ arrived (λ n. eqb n 8) 0 (since writing ++ take 7 (unfenced (due 2 4 (expected writing .ledger) (finish 48 1) .entries))) image
+    image-is = cut-expected oneGroup writing (search) (finish 48 1) 7 (λ n. eqb n 8) _ (relisted-entries 4 unfenced writing (finish 48 1) refl refl (search))
 
 -- ---- settle without its fence
 
@@ -566,23 +580,23 @@ unfolding expected
 settle-unfenced h = unlike (recovers (unfencedAt 6) h cut _ _ image-is history-is [] refl .records 0 (omega arith)) refl
   where
     cut : Cut
-    cut = during settling (reclaim 48 1) 1 (λ n. eqb n 13)
+    cut = during settling (reclaim 48 1) 1 (λ n. eqb n 15)
 
-    world-is : run (unfencedAt 6) settling (opened storeRules image) ≡ after settling
-    world-is = unfenced-run 6 settling (opened storeRules image) ∙ after-is settling
+    world-is : run (unfencedAt 6) settling (opened storeRules image 48) ≡ after settling
+    world-is = unfenced-run 6 settling (opened storeRules image 48) ∙ after-is settling
 
-    image-is : cutImage (unfencedAt 6) image cut
-        ≡ arrived (λ n. eqb n 13) 0 ((due-stored publishing first-seen ++ withoutLast (due 2 4 (expected publishing .ledger) (settle 48 1) .entries))
+    image-is : cutImage (unfencedAt 6) image 48 cut
+        ≡ arrived (λ n. eqb n 15) 0 ((since publishing ++ withoutLast (due 2 4 (expected publishing .ledger) (settle 48 1) .entries))
         ++ take 1 (due 2 4 (expected settling .ledger) (reclaim 48 1) .entries)) image
     image-is =
-        ap (λ (es : List Entry). arrived (λ n. eqb n 13) 0 (es ++ take 1 (reply (unfencedAt 6) (run (unfencedAt 6) settling (opened storeRules image)) (reclaim 48 1) .entries)) image)
+        ap (λ (es : List Entry). arrived (λ n. eqb n 15) 0 (es ++ take 1 (reply (unfencedAt 6) (run (unfencedAt 6) settling (opened storeRules image 48)) (reclaim 48 1) .entries)) image)
         (relisted-stored 6 withoutLast publishing (settle 48 1) refl refl (search))
-        ∙ ap (λ (w : World). arrived (λ n. eqb n 13) 0 ((due-stored publishing first-seen ++ withoutLast (due 2 4 (expected publishing .ledger) (settle 48 1) .entries)) ++ take 1 (reply storeRules w (reclaim 48 1) .entries)) image)
+        ∙ ap (λ (w : World). arrived (λ n. eqb n 15) 0 ((since publishing ++ withoutLast (due 2 4 (expected publishing .ledger) (settle 48 1) .entries)) ++ take 1 (reply storeRules w (reclaim 48 1) .entries)) image)
         world-is
-        ∙ ap (λ (es : List Entry). arrived (λ n. eqb n 13) 0 ((due-stored publishing first-seen ++ withoutLast (due 2 4 (expected publishing .ledger) (settle 48 1) .entries)) ++ take 1 es) image)
+        ∙ ap (λ (es : List Entry). arrived (λ n. eqb n 15) 0 ((since publishing ++ withoutLast (due 2 4 (expected publishing .ledger) (settle 48 1) .entries)) ++ take 1 es) image)
         (stores-next settling (reclaim 48 1))
 
-    history-is : cutHistory (unfencedAt 6) image cut ≡ expected settling .ledger .history
+    history-is : cutHistory (unfencedAt 6) image 48 cut ≡ expected settling .ledger .history
     history-is = ap (λ (w : World). w .ledger .history) world-is ∙ ap (λ (v : Seen). v .ledger .history) (after-expected settling)
 
 -- ---- a log that is cleared early
@@ -600,7 +614,7 @@ unfolding expected
 clears-early h = unlike (recovers clearsEarly h cut _ _ image-is history-is (48 ∷ []) refl .records 0 (omega arith)) refl
   where
     calls : List Call
-    calls = twice ++ publish 0 ∷ settle 48 0 ∷ []
+    calls = twice ++ publish 48 0 ∷ settle 48 0 ∷ []
 
     cut : Cut
     cut = during calls (reclaim 48 0) 2 (λ n. true)
@@ -625,17 +639,17 @@ clears-early h = unlike (recovers clearsEarly h cut _ _ image-is history-is (48 
         go : (y : Reply) → y .told ≡ held 1 → clearingEarly (after calls .image) d (reclaim 48 0) y .entries ≡ clearEntries (after calls .image) d 0
         go y e = rw e refl
 
-    image-is : cutImage clearsEarly image cut ≡ arrived (λ n. true) 0 (due-stored calls first-seen ++ (store (slotAt 2 0) 0 ∷ fence ∷ [])) image
+    image-is : cutImage clearsEarly image 48 cut ≡ arrived (λ n. true) 0 (since calls ++ (store (slotAt 2 0) 0 ∷ fence ∷ [])) image
     image-is = cut-expected clearsEarly calls (search depth 12) (reclaim 48 0) 2 (λ n. true) _ cleared-now
 
-    history-is : cutHistory clearsEarly image cut ≡ expected calls .ledger .history
+    history-is : cutHistory clearsEarly image 48 cut ≡ expected calls .ledger .history
     history-is = history-expected clearsEarly calls (search depth 12) (reclaim 48 0) 2 (λ n. true) _ refl _ image-is
 
 -- ---- find
 
 -- session 1 publishes record 0 with x as its first word, session 2 record 1 with 5; then session 0 listens
 abbrev shelving : ℕ → List Call
-shelving x = sealing 1 0 x ++ publish 1 ∷ sealing 2 1 5 ++ publish 2 ∷ listen (Begin 0) ∷ []
+shelving x = sealing 1 0 x ++ publish 48 1 ∷ sealing 2 1 5 ++ publish 48 2 ∷ listen (Begin 0) ∷ []
 
 abbrev seeking : Call
 seeking = listen (Find 0 5)
@@ -682,10 +696,10 @@ module _ (look : List ℕ → Desk → ℕ → ℕ → Told) (seek : ℕ → (�
   abbrev found-cut : Cut
   found-cut = during (calls ++ (seeking ∷ [])) (begin 0) 0 (λ i. true)
 
-  found-history : cutHistory (findsBy look seek) image found-cut ≡ expected calls .ledger .history
+  found-history : cutHistory (findsBy look seek) image 48 found-cut ≡ expected calls .ledger .history
   unfolding step note
   found-history =
-      ap (λ (w : World). w .ledger .history) (run-last (opening-as (findsBy look seek)) calls seeking (opened storeRules image))
+      ap (λ (w : World). w .ledger .history) (run-last (opening-as (findsBy look seek)) calls seeking (opened storeRules image 48))
       ∙ ap (λ (w : World). w .ledger .history) (ran (findsBy look seek) calls a)
       ∙ ap (λ (v : Seen). v .ledger .history) (after-expected calls)
 
@@ -694,12 +708,12 @@ module _ (look : List ℕ → Desk → ℕ → ℕ → Told) (seek : ℕ → (�
 
   found-right : Demand3 (findsBy look seek) → Finds (expected calls .ledger .history) (expected calls .ledger .history) tells-here looks-here
   found-right d =
-      let cut = cutHistory (findsBy look seek) image found-cut in
+      let cut = cutHistory (findsBy look seek) image 48 found-cut in
       subst (λ (v : Seen). Finds (expected calls .ledger .history) (v .ledger .history) tells-here looks-here) (after-expected calls)
       (subst (λ (h : History). Finds h (after calls .ledger .history) tells-here looks-here) found-history
       (subst (λ (y : Reply). Finds cut (after calls .ledger .history) (y .told) (y .looks)) gives-here
       (subst (λ (w : World). Finds cut (w .ledger .history) (reply (findsBy look seek) w seeking .told) (reply (findsBy look seek) w seeking .looks)) (ran (findsBy look seek) calls a)
-      (d image opens found-cut [] .reads calls [] seeking refl))))
+      (d image 48 opens found-cut [] .reads calls [] seeking refl))))
 
 -- record 0 is due, by its shown copy; the home records are zeros
 home-search : firstEnd 2 (passes asHome (shelving 5)) ≡ record { told = nothing; number = 2 }
@@ -766,6 +780,56 @@ miscounted h = go (storeRules .call (w .image) (w .desk) (finish 48 1)) (ap isRe
         → ⊥
     go y b c e = let f = rw b at e in omega (arith, f, c)
 
+-- ---- the ceiling
+
+-- session 0 begins; then power fails, and of what no fence follows nothing has arrived
+abbrev listened : Life
+listened =
+    record {
+      trace = 48;
+      cut = during (begin 0 ∷ []) (begin 1) 0 (λ n. false);
+      attempts = [];
+      whole = [];
+      last = 48;
+      arrives = λ n. true;
+    }
+
+-- whatever the opening stores, its first start is 1
+starts-at : (g : List Entry → List Entry) → Gives (openingBy g) image 48 (begin 0 ∷ []) 1
+unfolding expected after run
+starts-at g = record { earlier = []; call = begin 0; later = []; along = refl; told = ap numberGiven (told-next [] (begin 0)) }
+
+-- and the next opening finds the same image
+opens-unraised : Fresh (openingBy (λ es. [])) → ⊥
+unfolding expected openEntries step run stored AllCome afterLife afterLives
+opens-unraised h =
+    h image listened [] (record { opens = opens; cleans = refl }, tt) 48 opens (begin 0 ∷ []) 1 (starts-at (λ es. [])) (starts-at (λ es. []))
+
+opens-unfenced : Fresh (openingBy withoutLast) → ⊥
+unfolding expected openEntries step run stored AllCome afterLife afterLives
+opens-unfenced h =
+    h image listened [] (record { opens = opens; cleans = refl }, tt) 48 opens (begin 0 ∷ []) 1 (starts-at withoutLast) (starts-at withoutLast)
+
+-- 1 is stored, and 1,025 is due
+opens-at-clock : OpeningStores (openingBy clockAlone) → ⊥
+unfolding expected openEntries
+opens-at-clock h = eqb-false _ _ refl (ap word-of (h image 48 opens))
+  where
+    word-of : List Entry → ℕ
+    word-of [] = 0
+    word-of (store i w ∷ es) = w
+    word-of (fence ∷ es) = 0
+
+-- a publish that is to raise, on a store whose ceiling is its clock
+publish-unraised : PublishStores (past 5 (relisting (λ es. []))) → ⊥
+unfolding allBelow anyBelow countBelow first answered shapedB freshB placesOk sessionOk copiesB coherentB entryFault publishFault publishEntries publishReply
+publish-unraised h = eqb-false _ _ refl (ap length (h (set (emptyImage 8 2) 3 3) (deskOf 3 oneMark (oneCopy (Sealed 1)) idleSession) 48 0 refl))
+
+publish-unfenced : ((img : List ℕ) (d : Desk) (len s : ℕ)
+    → Tidy (publishFault img d len s) (unfencedAt 5 .call img d (publish len s) .count) (unfencedAt 5 .call img d (publish len s) .entries)) → ⊥
+unfolding allBelow anyBelow countBelow first answered shapedB freshB placesOk sessionOk copiesB coherentB entryFault publishFault publishEntries publishReply
+publish-unfenced h = false≢true (h (set (emptyImage 8 2) 3 3) (deskOf 3 oneMark (oneCopy (Sealed 1)) idleSession) 48 0 .fenced)
+
 pub impostors : Impostors
 impostors =
     record {
@@ -795,4 +859,9 @@ impostors =
       looks-home = looks-home;
       looks-last = looks-last;
       looks-early = looks-early;
+      opens-unfenced = opens-unfenced;
+      opens-unraised = opens-unraised;
+      opens-at-clock = opens-at-clock;
+      publish-unraised = publish-unraised;
+      publish-unfenced = publish-unfenced;
     }

@@ -1,4 +1,5 @@
 pub mod Edges
+pub mod Ceilings
 pub mod SameLog
 pub mod Sessions
 pub mod Steady
@@ -8,6 +9,7 @@ pub mod Lists
 pub mod Simulation
 pub mod Entering
 pub mod SimulateDesk
+pub mod SimulatePublish
 pub mod SimulateWrite
 pub mod SimulateChecks
 pub mod SimulateFinish
@@ -27,5 +29,6 @@ pub mod Refusals
 pub mod CallsRight
 pub mod Demands
 pub mod Lives
+pub mod Fresh
 pub mod Impostors
 pub mod ReelsBack

@@ -1,6 +1,8 @@
 -- Every list of entries is tidy, and each number of the table is the formula's.
 use mathlib.Core.Path.{refl}
 use Rattle.commit.proofs.Lists.{finish-tidy, settle-tidy, reclaim-tidy, finish-length, settle-length}
+use Rattle.desk.proofs.PublishLaws.{publish-tidy}
+use Rattle.recovery.proofs.OpenLaws.{open-tidy}
 use Rattle.recovery.proofs.Lists.{recover-tidy, recover-length}
 use Rattle.listening.proofs.FinishLaws.{no-entries}
 use Rattle.journal.specs.Lengths.{finishLength, settleLength, recoverLength}
@@ -9,7 +11,9 @@ use Rattle.claims.specs.Lists.{Lists, LengthTable}
 pub lists : Lists
 lists =
     record {
+      opens = open-tidy;
       finish = finish-tidy;
+      publish = publish-tidy;
       settle = settle-tidy;
       reclaim = reclaim-tidy;
       listen-finish = no-entries;

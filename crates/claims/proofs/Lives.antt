@@ -4,7 +4,7 @@ use mathlib.Core.Path.{_≡_, refl, sym, ap, _∙_}
 use mathlib.Core.Option.{Option, none, some}
 use mathlib.Core.List.{List, [], _∷_, _++_}
 use Rattle.layout.specs.Image.{recordsOf, homeWords}
-use Rattle.layout.specs.Told.{Told, ok, is, refusedBy, valueOf, Ok, Start, Sealed, End}
+use Rattle.layout.specs.Told.{Told, is, refusedBy, valueOf, Ok, Start, Sealed, End}
 use Rattle.layout.proofs.Says.{by-test}
 use Rattle.history.specs.Call.{Listening, Begin, Read, Finish, Find, Call, begin, read, write, abandon, finish, publish, settle, reclaim, listen}
 use Rattle.history.specs.Cut.{numberArrived, feedCut}
@@ -14,7 +14,7 @@ use Rattle.history.specs.History.{Seal, History, feedListening, feed, over, app
 use Rattle.history.specs.Ledger.{note}
 use Rattle.claims.specs.Rules.{Rules, storeRules}
 use Rattle.claims.specs.Run.{World, opened, reply, step, run}
-use Rattle.claims.specs.Demands.{Cut, opening, during, cutHistory, Recovered, Demand3}
+use Rattle.claims.specs.Demands.{Cut, opening, during, cutImage, cutHistory, Recovered, Demand3}
 use Rattle.claims.specs.Lives.{Life, Comes, afterLife, AllCome, afterLives, sealedIn, Lives}
 use Rattle.claims.proofs.Demands.{demand3}
 
@@ -48,7 +48,7 @@ feed-opening (write s r ws) t h =
     by-test (is Ok t) (λ e. rw e refl) (λ e. by-test (refusedBy 7 t) (λ k. rw (e, k) refl) (λ k. rw (e, k) refl))
 feed-opening (abandon s) t h = by-test (is Ok t) (λ e. rw e refl) (λ e. rw e refl)
 feed-opening (finish len s) t h = by-test (is Sealed t) (λ e. rw e refl) (λ e. rw e refl)
-feed-opening (publish s) t h = by-test (is End t) (λ e. rw e refl) (λ e. rw e refl)
+feed-opening (publish len s) t h = by-test (is End t) (λ e. rw e refl) (λ e. rw e refl)
 feed-opening (settle len s) t h = refl
 feed-opening (reclaim len s) t h = refl
 feed-opening (listen c) t h = listening-opening c t h
@@ -58,7 +58,7 @@ cut-opening N d (begin s) t img h = refl
 cut-opening N d (read s r) t img h = refl
 cut-opening N d (write s r ws) t img h = refl
 cut-opening N d (abandon s) t img h = refl
-cut-opening N d (publish s) t img h = refl
+cut-opening N d (publish len s) t img h = refl
 cut-opening N d (settle len s) t img h = refl
 cut-opening N d (reclaim len s) t img h = refl
 cut-opening N d (listen c) t img h = refl
@@ -71,48 +71,48 @@ module _ (R : Rules) where
   run-opening [] w = refl
   run-opening (c ∷ cs) w = run-opening cs (step R w c) ∙ feed-opening c (reply R w c .told) (w .ledger .history)
 
-  history-opening : (img : List ℕ) (cut : Cut) → cutHistory R img cut .opening ≡ homeWords img
-  history-opening img opening = refl
-  history-opening img (during calls c k sel) =
-      cut-opening _ _ c _ _ (run R calls (opened R img) .ledger .history) ∙ run-opening calls (opened R img)
+  history-opening : (img : List ℕ) (len : ℕ) (cut : Cut) → cutHistory R img len cut .opening ≡ homeWords img
+  history-opening img len (opening k sel) = refl
+  history-opening img len (during calls c k sel) =
+      cut-opening _ _ c _ _ (run R calls (opened R img len) .ledger .history) ∙ run-opening calls (opened R img len)
 
   -- ---- lives
 
   module _ (d : Demand3 R) where
     -- one life
-    one : (img : List ℕ) → R .opens img .told ≡ ok → (life : Life) → Comes R img life → Recovered R img (cutHistory R img (life .cut)) (afterLife R img life)
+    pub one-life : (img : List ℕ) (life : Life) → Comes R img life
+        → Recovered R img (cutImage R img (life .trace) (life .cut)) (cutHistory R img (life .trace) (life .cut)) (afterLife R img life)
     unfolding afterLife
-    one img o life e = d img o (life .cut) (life .attempts) .clean-right (life .whole) (life .last) (life .arrives) e
+    one-life img life e = d img (life .trace) (e .opens) (life .cut) (life .attempts) .clean-right (life .whole) (life .last) (life .arrives) (e .cleans)
 
     record Lasts (img : List ℕ) (lives : List Life) : Type 0 where
-      opens : R .opens (afterLives R lives img) .told ≡ ok
       n-same : recordsOf (afterLives R lives img) ≡ recordsOf img
       records : (r : ℕ) → r < recordsOf img → homeWords (afterLives R lives img) r ≡ fourWords (applied (sealedIn R lives img) r (homeWords img r))
 
-    lasts : (lives : List Life) (img : List ℕ) → R .opens img .told ≡ ok → AllCome R lives img → Lasts img lives
+    lasts : (lives : List Life) (img : List ℕ) → AllCome R lives img → Lasts img lives
     unfolding AllCome afterLives sealedIn
-    lasts [] img o e = record { opens = o; n-same = refl; records = λ r l. refl }
-    lasts (life ∷ rest) img o e =
-        let a = one img o life (e .0) in
-        let b = lasts rest (afterLife R img life) (a .opens) (e .1) in
+    lasts [] img e = record { n-same = refl; records = λ r l. refl }
+    lasts (life ∷ rest) img e =
+        let a = one-life img life (e .0) in
+        let b = lasts rest (afterLife R img life) (e .1) in
         record {
-          opens = b .opens;
           n-same = b .n-same ∙ a .n-same;
           records = λ r l.
               b .records r (rw (a .n-same) l)
               ∙ applied-four (sealedIn R rest (afterLife R img life)) r _ _ (ap fourWords (a .records r l))
-              ∙ ap (λ (z : ℕ → List ℕ). fourWords (applied (sealedIn R rest (afterLife R img life)) r (applied (cutHistory R img (life .cut) .sealed) r (z r))))
-              (history-opening img (life .cut))
-              ∙ ap fourWords (sym (applied-append (cutHistory R img (life .cut) .sealed) (sealedIn R rest (afterLife R img life)) r (homeWords img r)));
+              ∙ ap (λ (z : ℕ → List ℕ). fourWords (applied (sealedIn R rest (afterLife R img life)) r (applied (cutHistory R img (life .trace) (life .cut) .sealed) r (z r))))
+              (history-opening img (life .trace) (life .cut))
+              ∙ ap fourWords (sym (applied-append (cutHistory R img (life .trace) (life .cut) .sealed) (sealedIn R rest (afterLife R img life)) r (homeWords img r)));
         }
 
     pub lives-last : Lives R
-    lives-last img o lives e =
-        let a = lasts lives img o e in
+    lives-last img lives e =
+        let a = lasts lives img e in
         record {
-          opens = a .opens;
           records = a .records;
-          book = λ life c r l. one (afterLives R lives img) (a .opens) life c .records r (rw (a .n-same) l);
+          book = λ life c r l. one-life (afterLives R lives img) life c .records r (rw (a .n-same) l);
+          ceiling = λ life c. one-life (afterLives R lives img) life c .ceiling;
+          opens = λ life c x. one-life (afterLives R lives img) life c .opens x;
         }
 
 pub store-lives : Lives storeRules

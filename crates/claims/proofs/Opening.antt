@@ -1,39 +1,50 @@
--- The world at an opening: image and desk are ready, and the invariant of crate history holds. An image with empty slots opens.
-use Prim.Native.Nat.{ℕ, zero, suc, _+_, _*_, _<_}
+-- The world at an opening: image and desk are ready, and the invariant of crate history holds; and what a cut in the opening leaves.
+use Prim.Native.Nat.{ℕ, zero, suc, _+_, _*_, _≤_, _<_}
 use mathlib.Core.Path.{_≡_, refl, sym, ap, _∙_, fun-ext}
 use mathlib.Core.Logic.{_⊎_, inl, inr}
 use mathlib.Core.Bool.{Bool, true, false, not}
 use mathlib.Core.List.{List, []}
 use native.Mathlib.Decide.{decLt}
 use native.Mathlib.Omega.{arith}
-use lib.Dec.{eqb}
+use lib.Dec.{eqb, ltb}
 use lib.ListN.{getD, replicate, List·getD-eq-default}
-use borrow.Author.Tests.{eqb-true, not-true}
+use lib.Seq.{getD-set-same}
+use borrow.Author.Tests.{eqb-true, not-true, ltb-true}
 use Rattle.layout.specs.Below.{anyBelow}
 use Rattle.layout.proofs.BelowLaws.{any-finds}
-use Rattle.layout.specs.Checks.{unless, answered}
+use Rattle.layout.specs.Ceiling.{raiseEntries}
+use Rattle.layout.specs.Checks.{unless, first, answered, roomFor}
 use Rattle.layout.proofs.ChecksLaws.{first-both, unless-zero, answered-zero}
-use Rattle.layout.specs.Image.{slotAt, recordsOf, sessionsOf, shapedB, homeWords, persistAt, occupiedAt, occupiedB}
+use Rattle.layout.specs.Crash.{crashed as crash}
+use Rattle.layout.specs.Entries.{made}
+use Rattle.layout.specs.Image.{slotAt, recordsOf, sessionsOf, ceilingOf, shapedB, homeWords, persistAt, occupiedAt, occupiedB}
 use Rattle.layout.proofs.Says.{test}
 use Rattle.layout.proofs.Shape.{Shaped, says-shaped}
-use Rattle.desk.specs.Desk.{noSession, idleSession}
-use Rattle.recovery.specs.Open.{openFault, openReply, openRefused, opened as openedReply, freshDesk}
 use Rattle.layout.specs.Told.{ok}
+use Rattle.desk.specs.Coherent.{limit}
+use Rattle.desk.specs.Desk.{noSession, idleSession}
+use Rattle.journal.proofs.LogFacts.{Sound}
+use Rattle.recovery.specs.Open.{openFault, openEntries, openReply, openRefused, opened as openedReply, freshDesk}
 use Rattle.recovery.specs.Told.{openTold}
 use Rattle.recovery.specs.declared.opening.OpenReply.{OpenReply}
-use Rattle.history.specs.Log.{Clean}
-use Rattle.history.specs.Layout.{view}
+use Rattle.history.specs.Log.{Occupied, Clean}
+use Rattle.history.specs.Layout.{body, logOf, view}
 use Rattle.history.specs.Desk.{spot, Session as Txn, idle}
-use Rattle.history.proofs.Kept.{Holds}
+use Rattle.history.proofs.Invariant.{Inv}
+use Rattle.history.proofs.Kept.{Holds, Crashed}
+use Rattle.history.proofs.MoveRaise.{raise-numbers, raise-holds, raise-crashed}
+use Rattle.history.proofs.Slots.{One-word, made-one, cut-one}
+use Rattle.claims.specs.Run.{openLedger}
 use Rattle.claims.proofs.Abstraction.{pack, abs}
+use Rattle.claims.proofs.Recovering.{Whole, whole-again}
 use Rattle.claims.proofs.Simulation.{Ready}
 use Rattle.claims.proofs.SteadyCalls.{fresh-steady}
 
--- an image that opens passes the two checks
-module _ (img : List ℕ) (o : openTold (openReply img .answer) ≡ ok) where
-  passes : openFault img ≡ 0
+-- an image that opens passes the checks
+module _ (img : List ℕ) (len : ℕ) (o : openTold (openReply img len .answer) ≡ ok) where
+  passes : openFault img len ≡ 0
   unfolding openReply answered
-  passes = go (openFault img) o
+  passes = go (openFault img len) o
     where
       go : (k : ℕ) → openTold (answered k openRefused (openedReply img) .answer) ≡ ok → k ≡ 0
       go zero e = refl
@@ -43,50 +54,87 @@ module _ (img : List ℕ) (o : openTold (openReply img .answer) ≡ ok) where
   unfolding openFault
   opens-shaped = unless-zero (shapedB img) 0 (first-both (unless (shapedB img) 1) _ passes .0)
 
+  -- past checks 1 and 3
+  later : first (unless (not (occupiedB img (recordsOf img) (2 * sessionsOf img))) 11) (unless (ltb (ceilingOf img) limit) 10) ≡ 0
+  unfolding openFault
+  later = first-both (unless (roomFor len) 3) _ (first-both (unless (shapedB img) 1) _ passes .1) .1
+
+  pub opens-below : ceilingOf img < limit
+  opens-below = ltb-true _ _ (unless-zero (ltb (ceilingOf img) limit) 9 (first-both (unless (not (occupiedB img (recordsOf img) (2 * sessionsOf img))) 11) _ later .1))
+
   -- all slots are empty
   pub opens-clean : (p : ℕ) → p < 2 * sessionsOf img → persistAt img (recordsOf img) p ≡ 0
-  unfolding openFault occupiedB
+  unfolding occupiedB
   opens-clean p l = go (test (eqb (persistAt img (recordsOf img) p) 0))
     where
       none-occupied : anyBelow (2 * sessionsOf img) (occupiedAt img (recordsOf img)) ≡ false
-      none-occupied = not-true _ (unless-zero (not (occupiedB img (recordsOf img) (2 * sessionsOf img))) 10 (first-both (unless (shapedB img) 1) _ passes .1))
+      none-occupied = not-true _ (unless-zero (not (occupiedB img (recordsOf img) (2 * sessionsOf img))) 10 (first-both (unless (not (occupiedB img (recordsOf img) (2 * sessionsOf img))) 11) _ later .0))
 
       go : (eqb (persistAt img (recordsOf img) p) 0 ≡ true) ⊎ (eqb (persistAt img (recordsOf img) p) 0 ≡ false) → persistAt img (recordsOf img) p ≡ 0
       go (inl e) = eqb-true _ _ e
       go (inr e) = absurd (let z = any-finds (occupiedAt img (recordsOf img)) (2 * sessionsOf img) p l (ap not e) in let y : _≡_ {A = Bool} false true = sym none-occupied ∙ z in let w : _≡_ {A = ℕ} 0 1 = cc in omega arith)
 
-  pub opens-desk : openReply img .desk ≡ freshDesk 1 (recordsOf img) (sessionsOf img)
+  -- the clock that it gives
+  abbrev clock : ℕ
+  clock = ceilingOf img + 1
+
+  pub opens-desk : openReply img len .desk ≡ freshDesk (ceilingOf img + 1) (recordsOf img) (sessionsOf img)
   unfolding openReply
-  opens-desk = ap (λ (r : OpenReply). r .desk) (answered-zero (openFault img) openRefused (openedReply img) passes)
+  opens-desk = ap (λ (r : OpenReply). r .desk) (answered-zero (openFault img len) openRefused (openedReply img) passes)
+
+  pub opens-entries : openEntries img len ≡ raiseEntries (ceilingOf img + 1)
+  unfolding openEntries
+  opens-entries = answered-zero (openFault img len) (λ k. []) (raiseEntries (ceilingOf img + 1)) passes
 
   shape : Shaped img
   shape = says-shaped img .yes opens-shaped
 
-  pub opens-ready : Ready (recordsOf img) (sessionsOf img) img (freshDesk 1 (recordsOf img) (sessionsOf img))
+  -- the image behind the opening: word 3 is stored, and nothing else
+  abbrev raised : List ℕ
+  raised = made (raiseEntries (ceilingOf img + 1)) img
+
+  one : One-word 3 (clock + 1024) img raised
+  one = made-one 3 (clock + 1024) img
+
+  pub opens-ceiling : getD (made (raiseEntries (ceilingOf img + 1)) img) 3 0 ≡ ceilingOf img + 1 + 1024
+  opens-ceiling = getD-set-same img 3 (clock + 1024) 0 (omega (arith, shape .size))
+
+  pub opens-whole : Whole (recordsOf img) (sessionsOf img) img
+  opens-whole = record { shaped = opens-shaped; records = refl; sessions = refl }
+
+  whole-raised : Whole (recordsOf img) (sessionsOf img) raised
+  whole-raised = whole-again _ _ img raised opens-whole (λ j l. one .others j (λ e. omega arith)) (one .long ∙ shape .size)
+
+  pub opens-ready : Ready (recordsOf img) (sessionsOf img) (made (raiseEntries (ceilingOf img + 1)) img) (freshDesk (ceilingOf img + 1) (recordsOf img) (sessionsOf img))
   opens-ready =
-      let h = fresh-steady (recordsOf img) (sessionsOf img) (shape .range .n-low) (shape .range .n-high) (shape .range .m-low) (shape .range .m-high) in
+      let h = fresh-steady clock (recordsOf img) (sessionsOf img) (omega arith) (omega (arith, opens-below)) (shape .range .n-low) (shape .range .n-high) (shape .range .m-low) (shape .range .m-high) in
       record {
-        shaped = opens-shaped;
-        records = refl;
-        sessions = refl;
+        shaped = whole-raised .shaped;
+        records = whole-raised .records;
+        sessions = whole-raised .sessions;
         n-same = refl;
         m-same = refl;
+        under = omega (arith, opens-ceiling);
         coherent = h .coherent;
         holders-long = h .sized .holders;
         sessions-long = h .sized .sessions;
         copies-long = h .sized .copies;
       }
 
-  -- the persist numbers as a function: 0 everywhere, also past the last slot
-  pub opens-numbers : (λ p. 0) ≡ view (recordsOf img) img .number
-  opens-numbers = fun-ext (λ p. sym (at p (decLt p (2 * sessionsOf img))))
+  -- a slot that is past the last one is empty too
+  empty : (p : ℕ) → getD img (slotAt (recordsOf img) p) 0 ≡ 0
+  empty p = at (decLt p (2 * sessionsOf img))
     where
-      at : (p : ℕ) → Dec (p < 2 * sessionsOf img) → getD img (slotAt (recordsOf img) p) 0 ≡ 0
-      at p (yes l) = ap (λ i. getD img i 0) (omega arith) ∙ opens-clean p l
-      at p (no n) = List·getD-eq-default img 0 (omega (arith, shape .size))
+      at : Dec (p < 2 * sessionsOf img) → getD img (slotAt (recordsOf img) p) 0 ≡ 0
+      at (yes l) = ap (λ i. getD img i 0) (omega arith) ∙ opens-clean p l
+      at (no n) = List·getD-eq-default img 0 (omega (arith, shape .size))
+
+  -- the persist numbers as a function: 0 everywhere
+  pub opens-numbers : (λ p. 0) ≡ view (recordsOf img) (made (raiseEntries (ceilingOf img + 1)) img) .number
+  opens-numbers = fun-ext (λ p. sym (raise-numbers (recordsOf img) (sessionsOf img) (clock + 1024) img raised one p ∙ empty p))
 
   clean : Clean (2 * sessionsOf img) (view (recordsOf img) img)
-  clean p l = ap (λ i. getD img i 0) (omega arith) ∙ opens-clean p l
+  clean p l = empty p
 
   -- word j of a home record
   home-word : (r j : ℕ) → j < 4 → getD img (spot r j) 0 ≡ getD (homeWords img r) j 0
@@ -96,28 +144,52 @@ module _ (img : List ℕ) (o : openTold (openReply img .answer) ≡ ok) where
   home-word r (suc (suc (suc zero))) l = refl
   home-word r (suc (suc (suc (suc j)))) l = absurd (omega arith)
 
-  pub opens-holds : Holds (recordsOf img) (sessionsOf img) img (record { clock = 1; session = λ t. idle }) (record { opening = homeWords img; sealed = []; draft = λ t. []; start = λ t. 0 })
-  opens-holds =
+  sounds : (p : ℕ) → Occupied (2 * sessionsOf img) (view (recordsOf img) img) p → Sound (recordsOf img) (logOf (body (recordsOf img) img p))
+  sounds p a = absurd (a .1 (clean p (a .0)))
+
+  inv : Inv (recordsOf img) (sessionsOf img) (view (recordsOf img) img) (openLedger img .desk) (openLedger img .history)
+  inv =
       record {
-        whole = shape .size;
-        sounds = λ p a. absurd (a .1 (clean p (a .0)));
-        inv =
-            record {
-              positive = omega arith;
-              apart = λ p q i x y n a c. absurd (a .occupied .1 (clean p (a .occupied .0)));
-              bounded = λ p l. let z : getD img (4 + 4 * recordsOf img + 22 * p) 0 ≡ 0 = clean p l in omega arith;
-              newer = λ p r j x l a nn. absurd (a .occupied .1 (clean p (a .occupied .0)));
-              fine = λ t l. tt;
-              excl = λ t u lt lu n r x y m k. m;
-              final = λ r j lr lj. inr (record { unwritten = λ q x a. a .occupied .1 (clean q (a .occupied .0)); stands = home-word r j lj });
-              views = λ r σ lr li nn j lj. home-word r j lj;
-              lasts = λ r lr nn j lj. home-word r j lj;
-            };
+        positive = omega arith;
+        apart = λ p q i x y n a c. absurd (a .occupied .1 (clean p (a .occupied .0)));
+        bounded = λ p l. let z : getD img (4 + 4 * recordsOf img + 22 * p) 0 ≡ 0 = clean p l in omega arith;
+        newer = λ p r j x l a nn. absurd (a .occupied .1 (clean p (a .occupied .0)));
+        fine = λ t l. tt;
+        excl = λ t u lt lu n r x y m k. m;
+        final = λ r j lr lj. inr (record { unwritten = λ q x a. a .occupied .1 (clean q (a .occupied .0)); stands = home-word r j lj });
+        views = λ r σ lr li nn j lj. home-word r j lj;
+        lasts = λ r lr nn j lj. home-word r j lj;
       }
 
+  pub opens-holds : Holds (recordsOf img) (sessionsOf img) (made (raiseEntries (ceilingOf img + 1)) img) (openLedger img .desk) (openLedger img .history)
+  opens-holds =
+      raise-holds (recordsOf img) (sessionsOf img) (clock + 1024) img raised one (openLedger img .desk) (openLedger img .history) (shape .size) sounds inv
+      (omega (arith, opens-ceiling))
+
+  -- a cut in the opening: of the image, word 3 may be stored or not
+  module _ (k : ℕ) (sel : ℕ → Bool) where
+    torn : One-word 3 (clock + 1024) img (crash k sel (raiseEntries (ceilingOf img + 1)) img)
+    torn = cut-one 3 (clock + 1024) img k sel
+
+    pub opens-cut-whole : Whole (recordsOf img) (sessionsOf img) (crash k sel (raiseEntries (ceilingOf img + 1)) img)
+    opens-cut-whole = whole-again _ _ img _ opens-whole (λ j l. torn .others j (λ e. omega arith)) (torn .long ∙ shape .size)
+
+    pub opens-crashed : Crashed (recordsOf img) (sessionsOf img) (crash k sel (raiseEntries (ceilingOf img + 1)) img) (openLedger img .history)
+    opens-crashed =
+        raise-crashed (recordsOf img) (sessionsOf img) (clock + 1024) img _ torn (openLedger img .history)
+        (record { good = record { whole = shape .size; sound = sounds; apart = inv .apart }; final = inv .final })
+
+    pub opens-cut-ceiling : ceilingOf img ≤ ceilingOf (crash k sel (raiseEntries (ceilingOf img + 1)) img)
+    opens-cut-ceiling = go (torn .turn)
+      where
+        go : (ceilingOf (crash k sel (raiseEntries clock) img) ≡ ceilingOf img) ⊎ (ceilingOf (crash k sel (raiseEntries clock) img) ≡ clock + 1024)
+            → ceilingOf img ≤ ceilingOf (crash k sel (raiseEntries clock) img)
+        go (inl e) = omega (arith, e)
+        go (inr e) = omega (arith, e)
+
 -- the fresh desk, abstractly: all idle
-pub fresh-idle : (n m : ℕ) → abs (freshDesk 1 n m) ≡ record { clock = 1; session = λ t. idle }
-fresh-idle n m = ap (λ (f : ℕ → Txn). record { clock = 1; session = f }) (fun-ext (λ t. row 16 t))
+pub fresh-idle : (clock n m : ℕ) → abs (freshDesk clock n m) ≡ record { clock = clock; session = λ t. idle }
+fresh-idle clock n m = ap (λ (f : ℕ → Txn). record { clock = clock; session = f }) (fun-ext (λ t. row 16 t))
   where
     row : (k t : ℕ) → pack (getD (replicate k idleSession) t noSession) ≡ idle
     row zero t = refl

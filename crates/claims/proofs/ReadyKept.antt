@@ -1,7 +1,8 @@
 -- Image and desk stay ready along the calls of the store.
-use Prim.Native.Nat.{ℕ}
+use Prim.Native.Nat.{ℕ, _≤_}
 use mathlib.Core.Path.{_≡_, refl, _∙_}
 use mathlib.Core.List.{List}
+use Rattle.layout.specs.Image.{ceilingOf}
 use Rattle.desk.specs.declared.state.Desk.{Desk}
 use Rattle.history.specs.Call.{Listening, Begin, Read, Finish, Find, Call, begin, read, write, abandon, finish, publish, settle, reclaim, listen}
 use Rattle.claims.specs.Rules.{listeningCall, storeRules}
@@ -35,13 +36,14 @@ desk-kept w (read s r) h = stays (w .desk) _ h (read-desk (w .image) (w .desk) s
 desk-kept w (write s r ws) h = write-kept (w .image) (w .desk) s r ws h
 desk-kept w (abandon s) h = abandon-kept (w .desk) s h
 desk-kept w (finish len s) h = finish-kept (w .image) (w .desk) len s h
-desk-kept w (publish s) h = publish-kept (w .desk) s h
+desk-kept w (publish len s) h = publish-kept (w .image) (w .desk) len s h
 desk-kept w (settle len s) h = settle-kept (w .image) (w .desk) len s h
 desk-kept w (reclaim len s) h = stays (w .desk) _ h (reclaim-desk (w .image) (w .desk) len s)
 desk-kept w (listen c) h = listening-kept (w .image) (w .desk) c h
 
-pub ready-kept : (N M : ℕ) (w : World) (c : Call) (img′ : List ℕ) → Ready N M (w .image) (w .desk) → Whole N M img′ → Ready N M img′ (reply storeRules w c .desk)
-ready-kept N M w c img′ h g =
+pub ready-kept : (N M : ℕ) (w : World) (c : Call) (img′ : List ℕ) → Ready N M (w .image) (w .desk) → Whole N M img′ → reply storeRules w c .desk .clock ≤ ceilingOf img′
+    → Ready N M img′ (reply storeRules w c .desk)
+ready-kept N M w c img′ h g u =
     let k = desk-kept w c (steady-of N M (w .image) (w .desk) h) in
     record {
       shaped = g .shaped;
@@ -49,6 +51,7 @@ ready-kept N M w c img′ h g =
       sessions = g .sessions;
       n-same = k .n-same ∙ h .n-same;
       m-same = k .m-same ∙ h .m-same;
+      under = u;
       coherent = k .steady .coherent;
       holders-long = k .steady .sized .holders;
       sessions-long = k .steady .sized .sessions;

@@ -17,7 +17,7 @@ use Rattle.layout.proofs.BelowLaws.{lowest-more}
 use Rattle.layout.specs.Checks.{first, answered}
 use Rattle.layout.proofs.ChecksLaws.{answered-zero}
 use Rattle.layout.specs.Entries.{Entry, made, endsFenced}
-use Rattle.layout.specs.Image.{recordsOf, sessionsOf, shapedB, homeAt, slotAt, slotWord, persistAt, occupiedAt}
+use Rattle.layout.specs.Image.{recordsOf, sessionsOf, shapedB, homeAt, slotAt, slotWord, persistAt, occupiedAt, ceilingOf}
 use Rattle.layout.specs.Told.{Told, refusal, clean, replayed, codeTold}
 use Rattle.journal.specs.Log.{unsoundB, countOf, recOf, wordsOf}
 use Rattle.layout.proofs.Least.{Least, oldest-is}
@@ -45,8 +45,8 @@ pub record Whole (N M : ℕ) (img : List ℕ) : Type 0 where
   pub records : recordsOf img ≡ N
   pub sessions : sessionsOf img ≡ M
 
--- an image of the same length with the same header words is as whole
-pub whole-again : (N M : ℕ) (img img′ : List ℕ) → Whole N M img → ((j : ℕ) → j < 4 → getD img′ j 0 ≡ getD img j 0) → length img′ ≡ 4 + 4 * N + 44 * M → Whole N M img′
+-- an image of the same length with the same N and M is as whole
+pub whole-again : (N M : ℕ) (img img′ : List ℕ) → Whole N M img → ((j : ℕ) → j < 3 → getD img′ j 0 ≡ getD img j 0) → length img′ ≡ 4 + 4 * N + 44 * M → Whole N M img′
 whole-again N M img img′ h low long =
     let s = says-shaped img .yes (h .shaped) in
     let n : recordsOf img′ ≡ recordsOf img = low 1 (omega arith) in
@@ -190,17 +190,18 @@ module _ (N M : ℕ) (img : List ℕ) (len : ℕ) (w : Whole N M img) (g : Good 
 
 -- ---- what calls of recover leave
 
--- img′ is whole and good where img is, and has the same final words
+-- img′ is whole and good where img is, and has the same ceiling and the same final words
 pub record Follows (N M : ℕ) (img img′ : List ℕ) : Type 0 where
   pub whole : Whole N M img′
+  pub ceiling : ceilingOf img′ ≡ ceilingOf img
   pub carries : Carries N M img img′
 
 pub follows-self : (N M : ℕ) (img : List ℕ) → Whole N M img → Good N M img → Follows N M img img
-follows-self N M img w g = record { whole = w; carries = record { good = g; final = λ i x h f. f } }
+follows-self N M img w g = record { whole = w; ceiling = refl; carries = record { good = g; final = λ i x h f. f } }
 
 follows-then : {N M : ℕ} {a b c : List ℕ} → Follows N M a b → Follows N M b c → Follows N M a c
 follows-then p q =
-    record { whole = q .whole; carries = record { good = q .carries .good; final = λ i x h f. q .carries .final i x h (p .carries .final i x h f) } }
+    record { whole = q .whole; ceiling = q .ceiling ∙ p .ceiling; carries = record { good = q .carries .good; final = λ i x h f. q .carries .final i x h (p .carries .final i x h f) } }
 
 module _ (N M : ℕ) (img : List ℕ) (w : Whole N M img) (g : Good N M img) where
   -- a step, whole or broken off anywhere, keeps header and length
@@ -208,6 +209,7 @@ module _ (N M : ℕ) (img : List ℕ) (w : Whole N M img) (g : Good N M img) whe
   step-follows p o a =
       record {
         whole = whole-again N M img _ w (λ j l. step-elsewhere N M img g p o a j (λ h. omega arith) (λ e. omega arith)) (step-carries N M img g p o a .good .whole);
+        ceiling = step-elsewhere N M img g p o a 3 (λ h. omega arith) (λ e. omega arith);
         carries = step-carries N M img g p o a;
       }
 

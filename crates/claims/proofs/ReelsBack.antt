@@ -103,7 +103,7 @@ module _ (s r : ℕ) (ws : List ℕ) where
   note-holds (finish len u) t f d b h =
       either (is Sealed t) _ _ (entered u _ d (λ e. sealed-holds (valueOf t) (d .session u)) h)
       (either (is Empty t) _ d (entered u idle d (λ e. tt) h) h)
-  note-holds (publish u) t f d b h =
+  note-holds (publish len u) t f d b h =
       either (is End t) _ d (entered u _ (ticked d) (λ e. rw e (ended-holds (valueOf t) (d .session s) h)) h) h
   note-holds (settle len u) t f d b h = either (is Ok t) _ d (entered u idle d (λ e. tt) h) h
   note-holds (reclaim len u) t f d b h = h
@@ -189,14 +189,14 @@ told-own x reel g e = let p = go (x .answer) (x .words) e in rw (p .0, p .1, goo
     go Copy vs e = let w : _≡_ {A = ℕ} 23 22 = ap codeTold e in absurd (omega arith)
     go Home vs e = let w : _≡_ {A = ℕ} 24 22 = ap codeTold e in absurd (omega arith)
 
-module _ (img : List ℕ) (o : storeRules .opens img .told ≡ ok) (earlier : List Call) (s r : ℕ) (reel : Reel) where
+module _ (img : List ℕ) (len : ℕ) (o : storeRules .opens img len .told ≡ ok) (earlier : List Call) (s r : ℕ) (reel : Reel) where
   abbrev w : World
-  w = run storeRules earlier (opened storeRules img)
+  w = run storeRules earlier (opened storeRules img len)
 
   -- what a call tells behind the write and further calls is due
   tells-due : (calls : List Call) (c : Call)
       → reply storeRules (behind w s r reel calls) c .told ≡ due (recordsOf img) (sessionsOf img) (behind w s r reel calls .ledger) c .answer
-  tells-due calls c = rw (run-append earlier (write s r (wordsOf reel) ∷ calls) (opened storeRules img)) at (demand2 img o (earlier ++ (write s r (wordsOf reel) ∷ calls)) c)
+  tells-due calls c = rw (run-append earlier (write s r (wordsOf reel) ∷ calls) (opened storeRules img len)) at (demand2 img len o (earlier ++ (write s r (wordsOf reel) ∷ calls)) c)
 
   module _ (e : writeReelReply (w .image) (w .desk) s r reel .answer ≡ Written) where
     good : goodB reel ≡ true
@@ -225,7 +225,7 @@ module _ (img : List ℕ) (o : storeRules .opens img .told ≡ ok) (earlier : Li
     unfolding run reply
     same-reel =
         record {
-          at-once = finds [] (rw after-write (written-read s r (wordsOf reel) (w .ledger) _ _ (sym (demand2 img o earlier (write s r (wordsOf reel))) ∙ taken)));
+          at-once = finds [] (rw after-write (written-read s r (wordsOf reel) (w .ledger) _ _ (sym (demand2 img len o earlier (write s r (wordsOf reel))) ∙ taken)));
           later = λ calls b n.
               let v = behind w s r reel calls in
               finds calls
@@ -236,4 +236,4 @@ module _ (img : List ℕ) (o : storeRules .opens img .told ≡ ok) (earlier : Li
         }
 
 pub reels-back : ReelsBack
-reels-back img o earlier s r reel e = same-reel img o earlier s r reel e
+reels-back img len o earlier s r reel e = same-reel img len o earlier s r reel e

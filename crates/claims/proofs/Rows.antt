@@ -9,14 +9,15 @@ use lib.ListN.{length}
 use borrow.Author.Tests.{leb-true, leb-false, lt-ltb, le-ltb, eqb-true, eqb-false, ne-eqb, le-leb, ltb-true}
 use Rattle.layout.specs.Below.{anyBelow, lowest}
 use Rattle.layout.specs.Checks.{unless, first, roomFor}
-use Rattle.layout.specs.Image.{recordsOf, sessionsOf, inRange, sizeOf, shapedB, occupiedB}
+use Rattle.layout.specs.Image.{recordsOf, ceilingOf, inRange, sizeOf, shapedB, occupiedB}
 use Rattle.layout.specs.Lay.{layFault}
 use Rattle.layout.proofs.BelowLaws.{lowest-none, lowest-most, any-finds}
 use Rattle.layout.proofs.ChecksLaws.{first-assoc}
 use Rattle.layout.proofs.Says.{by-test, says-and, says-lt, says-eq, says-any, says-itself, says-not, says-equal}
 use Rattle.desk.specs.Coherent.{limit, coherentB, placeHas}
-use Rattle.desk.specs.Desk.{sessionAt, markAt, copiedRec, isActive, isPublished}
-use Rattle.desk.specs.Entering.{sessionFault, deskFault, entryFault, imageFault}
+use Rattle.desk.specs.Desk.{sessionAt, markAt, copiedRec, isActive, isSealed, isPublished}
+use Rattle.desk.specs.Entering.{sessionFault, deskFault, agreesB, entryFault, imageFault}
+use Rattle.desk.specs.Publish.{publishFault}
 use Rattle.desk.specs.declared.state.Phase.{Phase}
 use Rattle.desk.specs.declared.state.Session.{Session}
 use Rattle.desk.specs.declared.state.Desk.{Desk}
@@ -35,9 +36,9 @@ use Rattle.reels.specs.Reel.{shelfB}
 use Rattle.listening.specs.Listener.{noCopies, listenerFault}
 use Rattle.listening.specs.Read.{listenReadFault}
 use Rattle.listening.specs.Find.{findFault}
-use Rattle.history.specs.Call.{Read, Finish, Find, read, write, finish, settle, reclaim}
-use Rattle.claims.specs.Refusals.{Cause, wrongImage, wrongLength, incoherent, otherSize, shortTrace, noSession, noRecord, wrongPhase}
-use Rattle.claims.specs.Refusals.{otherHolds, fifthRecord, slotsFull, clockAtLimit, slotOccupied, logUnsound, logsTied, outOfRange, wrongShelf, copiesHeld}
+use Rattle.history.specs.Call.{Read, Finish, Find, read, write, finish, publish, settle, reclaim}
+use Rattle.claims.specs.Refusals.{Cause, wrongImage, wrongLength, incoherent, otherHeader, shortTrace, noSession, noRecord, wrongPhase}
+use Rattle.claims.specs.Refusals.{otherHolds, fifthRecord, slotsFull, clockAtLimit, ceilingAtLimit, slotOccupied, logUnsound, logsTied, outOfRange, wrongShelf, copiesHeld}
 use Rattle.claims.specs.Refusals.{Given, number, markedOwn, unsoundAt, tiedAt, holds, firstRefusal, layRow, openRow, recoverRow, listeningRow, row, ofImage, ofCall, givenListening, given}
 use Rattle.claims.proofs.Abstraction.{lowest-is}
 
@@ -49,7 +50,7 @@ unfolding first
 refuses wrongImage rest = refl
 refuses wrongLength rest = refl
 refuses incoherent rest = refl
-refuses otherSize rest = refl
+refuses otherHeader rest = refl
 refuses shortTrace rest = refl
 refuses noSession rest = refl
 refuses noRecord rest = refl
@@ -58,6 +59,7 @@ refuses otherHolds rest = refl
 refuses fifthRecord rest = refl
 refuses slotsFull rest = refl
 refuses clockAtLimit rest = refl
+refuses ceilingAtLimit rest = refl
 refuses slotOccupied rest = refl
 refuses logUnsound rest = refl
 refuses logsTied rest = refl
@@ -118,7 +120,7 @@ none-found p n =
 
 -- ---- the checks that calls share
 
--- begin, abandon and publish: checks 2, 4 and 6
+-- begin and abandon: checks 2, 4 and 6
 pub desk-row : (img : List ℕ) (d : Desk) (s : ℕ) (allows : Phase → Bool)
     → first (deskFault d s) (unless (allows (sessionAt d s .phase)) 6) ≡ firstRefusal (incoherent ∷ noSession ∷ wrongPhase ∷ []) (ofCall img d 0 s 0 0 allows)
 unfolding sessionFault holds
@@ -134,36 +136,36 @@ module _ (img : List ℕ) (d : Desk) (len s r k : ℕ) (allows : Phase → Bool)
   g = ofCall img d len s r k allows
 
   -- check 2 has two causes
-  coherent-row : unless (coherentB d && eqb (d .n) (recordsOf img) && eqb (d .m) (sessionsOf img)) 2 ≡ firstRefusal (incoherent ∷ otherSize ∷ []) g
+  coherent-row : unless (coherentB d && agreesB img (d .clock) (d .n) (d .m)) 2 ≡ firstRefusal (incoherent ∷ otherHeader ∷ []) g
   unfolding holds first
   coherent-row =
-      go (coherentB d) (eqb (d .n) (recordsOf img)) (eqb (d .m) (sessionsOf img))
-      ∙ joined g (incoherent ∷ []) (otherSize ∷ []) (asks g incoherent (coherentB d) refl)
-      (λ z. asks g otherSize (eqb (d .n) (recordsOf img) && eqb (d .m) (sessionsOf img)) refl)
+      go (coherentB d) (agreesB img (d .clock) (d .n) (d .m))
+      ∙ joined g (incoherent ∷ []) (otherHeader ∷ []) (asks g incoherent (coherentB d) refl)
+      (λ z. asks g otherHeader (agreesB img (d .clock) (d .n) (d .m)) refl)
     where
-      go : (a b c : Bool) → unless (a && b && c) 2 ≡ first (unless a 2) (unless (b && c) 2)
-      go true b c = refl
-      go false b c = refl
+      go : (a b : Bool) → unless (a && b) 2 ≡ first (unless a 2) (unless b 2)
+      go true b = refl
+      go false b = refl
 
   -- xs is the cause of check 3, of a call that makes it
   image-row : (room : Bool) (xs : List Cause) → unless room 3 ≡ firstRefusal xs g
-      → imageFault img d room s ≡ firstRefusal (wrongImage ∷ incoherent ∷ otherSize ∷ (xs ++ (noSession ∷ []))) g
+      → imageFault img d room s ≡ firstRefusal (wrongImage ∷ incoherent ∷ otherHeader ∷ (xs ++ (noSession ∷ []))) g
   unfolding entryFault holds
   image-row room xs e =
-      joined g (wrongImage ∷ []) (incoherent ∷ otherSize ∷ (xs ++ (noSession ∷ []))) (asks g wrongImage (shapedB img) refl)
-      (λ z. joined g (incoherent ∷ otherSize ∷ []) (xs ++ (noSession ∷ [])) coherent-row
+      joined g (wrongImage ∷ []) (incoherent ∷ otherHeader ∷ (xs ++ (noSession ∷ []))) (asks g wrongImage (shapedB img) refl)
+      (λ z. joined g (incoherent ∷ otherHeader ∷ []) (xs ++ (noSession ∷ [])) coherent-row
       (λ z. joined g xs (noSession ∷ []) e (λ z. asks g noSession (ltb s (d .m)) (leb-not (d .m) s))))
 
-  -- finish, settle and reclaim: checks 1 to 4
-  traced-row : imageFault img d (roomFor len) s ≡ firstRefusal (wrongImage ∷ incoherent ∷ otherSize ∷ shortTrace ∷ noSession ∷ []) g
+  -- finish, publish, settle and reclaim: checks 1 to 4
+  traced-row : imageFault img d (roomFor len) s ≡ firstRefusal (wrongImage ∷ incoherent ∷ otherHeader ∷ shortTrace ∷ noSession ∷ []) g
   unfolding holds
   traced-row = image-row (roomFor len) (shortTrace ∷ []) (asks g shortTrace (roomFor len) (room-not len))
 
   -- read and write: checks 1, 2, 4 and 5
-  record-row : recordFault img d s r ≡ firstRefusal (wrongImage ∷ incoherent ∷ otherSize ∷ noSession ∷ noRecord ∷ []) g
+  record-row : recordFault img d s r ≡ firstRefusal (wrongImage ∷ incoherent ∷ otherHeader ∷ noSession ∷ noRecord ∷ []) g
   unfolding firstRefusal holds
   record-row =
-      joined g (wrongImage ∷ incoherent ∷ otherSize ∷ noSession ∷ []) (noRecord ∷ []) (image-row true [] refl)
+      joined g (wrongImage ∷ incoherent ∷ otherHeader ∷ noSession ∷ []) (noRecord ∷ []) (image-row true [] refl)
       (λ z. asks g noRecord (ltb r (d .n)) (leb-not (d .n) r))
 
 -- ---- the calls
@@ -175,12 +177,15 @@ lay-row n m img =
     joined g (outOfRange ∷ []) (wrongLength ∷ []) (asks g outOfRange (inRange n m) refl)
     (λ z. asks g wrongLength (eqb (length img) (sizeOf n m)) refl)
 
-pub open-row : (img : List ℕ) → openFault img ≡ firstRefusal openRow (ofImage img 0 0 0)
+pub open-row : (img : List ℕ) (len : ℕ) → openFault img len ≡ firstRefusal openRow (ofImage img len 0 0)
 unfolding openFault holds
-open-row img =
-    let g = ofImage img 0 0 0 in
-    joined g (wrongImage ∷ []) (slotOccupied ∷ []) (asks g wrongImage (shapedB img) refl)
-    (λ z. asks g slotOccupied (not (occupiedB img (recordsOf img) (slotsOf img))) (sym (Bool·not-not _)))
+open-row img len =
+    let g = ofImage img len 0 0 in
+    joined g (wrongImage ∷ []) (shortTrace ∷ slotOccupied ∷ ceilingAtLimit ∷ []) (asks g wrongImage (shapedB img) refl)
+    (λ z. joined g (shortTrace ∷ []) (slotOccupied ∷ ceilingAtLimit ∷ []) (asks g shortTrace (roomFor len) (room-not len))
+    (λ z. joined g (slotOccupied ∷ []) (ceilingAtLimit ∷ [])
+    (asks g slotOccupied (not (occupiedB img (recordsOf img) (slotsOf img))) (sym (Bool·not-not _)))
+    (λ z. asks g ceilingAtLimit (ltb (ceilingOf img) limit) (leb-not limit (ceilingOf img)))))
 
 pub recover-row : (img : List ℕ) (len : ℕ) → recoverFault img len ≡ firstRefusal recoverRow (ofImage img len 0 0)
 unfolding recoverFault unsoundPlace tiesB tiedBelow holds
@@ -196,7 +201,7 @@ pub finish-row : (img : List ℕ) (d : Desk) (len s : ℕ) → finishFault img d
 unfolding finishFault holds
 finish-row img d len s =
     let g = given img d (finish len s) in
-    joined g (wrongImage ∷ incoherent ∷ otherSize ∷ shortTrace ∷ noSession ∷ []) (wrongPhase ∷ clockAtLimit ∷ [])
+    joined g (wrongImage ∷ incoherent ∷ otherHeader ∷ shortTrace ∷ noSession ∷ []) (wrongPhase ∷ clockAtLimit ∷ [])
     (traced-row img d len s 0 0 isActive)
     (λ z. joined g (wrongPhase ∷ []) (clockAtLimit ∷ []) (asks g wrongPhase (isActive (sessionAt d s .phase)) refl)
     (λ z. asks g clockAtLimit (eqb (sessionAt d s .count) 0 || ltb (d .clock) limit)
@@ -206,8 +211,15 @@ pub settle-row : (img : List ℕ) (d : Desk) (len s : ℕ) → settleFault img d
 unfolding settleFault holds
 settle-row img d len s =
     let g = given img d (settle len s) in
-    joined g (wrongImage ∷ incoherent ∷ otherSize ∷ shortTrace ∷ noSession ∷ []) (wrongPhase ∷ []) (traced-row img d len s 0 0 isPublished)
+    joined g (wrongImage ∷ incoherent ∷ otherHeader ∷ shortTrace ∷ noSession ∷ []) (wrongPhase ∷ []) (traced-row img d len s 0 0 isPublished)
     (λ z. asks g wrongPhase (isPublished (sessionAt d s .phase)) refl)
+
+pub publish-row : (img : List ℕ) (d : Desk) (len s : ℕ) → publishFault img d len s ≡ firstRefusal (row (publish len s)) (given img d (publish len s))
+unfolding publishFault holds
+publish-row img d len s =
+    let g = given img d (publish len s) in
+    joined g (wrongImage ∷ incoherent ∷ otherHeader ∷ shortTrace ∷ noSession ∷ []) (wrongPhase ∷ []) (traced-row img d len s 0 0 isSealed)
+    (λ z. asks g wrongPhase (isSealed (sessionAt d s .phase)) refl)
 
 pub reclaim-row : (img : List ℕ) (d : Desk) (len s : ℕ) → reclaimFault img d len s ≡ firstRefusal (row (reclaim len s)) (given img d (reclaim len s))
 unfolding reclaimFault
@@ -218,7 +230,7 @@ unfolding readFault holds
 read-row img d s r =
     let g = given img d (read s r) in
     sym (first-assoc (imageFault img d true s) _ _)
-    ∙ joined g (wrongImage ∷ incoherent ∷ otherSize ∷ noSession ∷ noRecord ∷ []) (wrongPhase ∷ []) (record-row img d 0 s r 0 isActive)
+    ∙ joined g (wrongImage ∷ incoherent ∷ otherHeader ∷ noSession ∷ noRecord ∷ []) (wrongPhase ∷ []) (record-row img d 0 s r 0 isActive)
     (λ z. asks g wrongPhase (isActive (sessionAt d s .phase)) refl)
 
 -- ---- the listening room
@@ -241,15 +253,15 @@ pub listen-finish-row : (img : List ℕ) (d : Desk) (len s : ℕ)
     → listenerFault img d (roomFor len) s ≡ firstRefusal (listeningRow (Finish len s)) (givenListening img d (Finish len s))
 unfolding listenerFault
 listen-finish-row img d len s =
-    joined (givenListening img d (Finish len s)) (wrongImage ∷ incoherent ∷ otherSize ∷ shortTrace ∷ noSession ∷ []) (wrongPhase ∷ copiesHeld ∷ [])
+    joined (givenListening img d (Finish len s)) (wrongImage ∷ incoherent ∷ otherHeader ∷ shortTrace ∷ noSession ∷ []) (wrongPhase ∷ copiesHeld ∷ [])
     (traced-row img d len s 0 0 isActive) (λ z. listener-row img d len s 0)
 
 pub find-row : (img : List ℕ) (d : Desk) (s k : ℕ) → findFault img d s k ≡ firstRefusal (listeningRow (Find s k)) (givenListening img d (Find s k))
 unfolding findFault listenerFault holds firstRefusal
 find-row img d s k =
     let g = givenListening img d (Find s k) in
-    joined g (wrongShelf ∷ []) (wrongImage ∷ incoherent ∷ otherSize ∷ noSession ∷ wrongPhase ∷ copiesHeld ∷ []) (asks g wrongShelf (shelfB k) refl)
-    (λ z. joined g (wrongImage ∷ incoherent ∷ otherSize ∷ noSession ∷ []) (wrongPhase ∷ copiesHeld ∷ []) (image-row img d 0 s 0 k isActive true [] refl)
+    joined g (wrongShelf ∷ []) (wrongImage ∷ incoherent ∷ otherHeader ∷ noSession ∷ wrongPhase ∷ copiesHeld ∷ []) (asks g wrongShelf (shelfB k) refl)
+    (λ z. joined g (wrongImage ∷ incoherent ∷ otherHeader ∷ noSession ∷ []) (wrongPhase ∷ copiesHeld ∷ []) (image-row img d 0 s 0 k isActive true [] refl)
     (λ y. listener-row img d 0 s k))
 
 -- ---- write
@@ -309,7 +321,7 @@ unfolding writeFault holds
 write-row img d s r ws =
     let g = given img d (write s r ws) in
     sym (first-assoc (imageFault img d true s) _ _)
-    ∙ joined g (wrongImage ∷ incoherent ∷ otherSize ∷ noSession ∷ noRecord ∷ []) (wrongPhase ∷ otherHolds ∷ fifthRecord ∷ slotsFull ∷ [])
+    ∙ joined g (wrongImage ∷ incoherent ∷ otherHeader ∷ noSession ∷ noRecord ∷ []) (wrongPhase ∷ otherHolds ∷ fifthRecord ∷ slotsFull ∷ [])
     (record-row img d 0 s r 0 isActive)
     (λ z. joined g (wrongPhase ∷ []) (otherHolds ∷ fifthRecord ∷ slotsFull ∷ []) (asks g wrongPhase (isActive (sessionAt d s .phase)) refl)
     (λ y. copy-row img d s r (record-entered img d s r z)))

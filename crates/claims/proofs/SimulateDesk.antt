@@ -1,33 +1,31 @@
--- Begin, abandon and publish do what the abstract calls do.
-use Prim.Native.Nat.{ℕ, suc, _<_}
+-- Begin and abandon do what the abstract calls do.
+use Prim.Native.Nat.{ℕ, _<_}
 use mathlib.Core.Path.{_≡_, refl}
 use mathlib.Core.Logic.{⊎-elim}
 use mathlib.Core.Bool.{Bool, true, false, cond}
 use mathlib.Core.List.{List, []}
 use native.Mathlib.Omega.{arith}
-use native.Mathlib.Numerals.{add-one}
 use lib.Dec.{leb}
 use borrow.Author.Tests.{leb-false}
+use Rattle.layout.specs.Image.{ceilingOf}
 use Rattle.layout.specs.Checks.{unless, first, answered}
-use Rattle.desk.specs.Desk.{sessionAt, isIdle, isActive, isSealed, withPhase}
+use Rattle.desk.specs.Desk.{sessionAt, isIdle, isActive, withPhase}
 use Rattle.desk.specs.Begin.{beginFault, beginRefused, begun, beginReply}
 use Rattle.desk.specs.Abandon.{abandonFault, abandonRefused, abandoned, abandonReply}
-use Rattle.desk.specs.Publish.{publishFault, publishRefused, published, publishReply}
 use Rattle.desk.specs.declared.state.Phase.{Phase}
 use Rattle.desk.specs.declared.state.Phase.the-variants.{Idle, Active, Sealed, Published}
 use Rattle.desk.specs.declared.state.Session.{Session}
 use Rattle.desk.specs.declared.state.Desk.{Desk}
 use Rattle.desk.specs.declared.begin.BeginReply.{BeginReply}
 use Rattle.desk.specs.declared.abandon.AbandonReply.{AbandonReply}
-use Rattle.desk.specs.declared.publish.PublishReply.{PublishReply}
 use Rattle.desk.proofs.Facts.{SessionIn}
 use Rattle.layout.specs.Told.{refusal, ok, start}
-use Rattle.desk.specs.Told.{beginTold, abandonTold, publishTold}
-use Rattle.history.specs.Call.{begin, abandon, publish}
+use Rattle.desk.specs.Told.{beginTold, abandonTold}
+use Rattle.history.specs.Call.{begin, abandon}
 use Rattle.history.specs.Desk.{active}
-use Rattle.history.specs.Due.{Due, refuse, begins, abandons, publishes, dueOf}
+use Rattle.history.specs.Due.{Due, refuse, begins, abandons, dueOf}
 use Rattle.history.specs.History.{History}
-use Rattle.claims.proofs.Abstraction.{abs, pack, copiesOf, txn-of, abs-put}
+use Rattle.claims.proofs.Abstraction.{abs, pack, copiesOf, txn-of}
 use Rattle.claims.proofs.Simulation.{Sim, Ready}
 use Rattle.claims.proofs.Entering.{desk-check, session-small, session-there, told, entered, emptied}
 
@@ -50,11 +48,8 @@ module _ (N M : ℕ) (img : List ℕ) (d : Desk) (s : ℕ) (f : ℕ → ℕ) (k 
   abbrev AbandonSim : AbandonReply → Due → Type 0
   AbandonSim x y = Sim (abandon s) f d (abandonTold (x .answer)) [] (x .desk) y
 
-  abbrev PublishSim : PublishReply → Due → Type 0
-  PublishSim x y = Sim (publish s) f d (publishTold (x .answer)) [] (x .desk) y
-
   -- begin takes the clock as the start
-  pub begin-sim : BeginSim (beginReply d s) (dueOf N M f (abs d) k (begin s))
+  pub begin-sim : BeginSim (beginReply d s) (dueOf N M f (ceilingOf img) (abs d) k (begin s))
   unfolding beginReply beginFault answered first
   begin-sim = rw (desk-check N M img d h s) (go (leb M s) (leb-false M s) (e .phase) refl)
     where
@@ -71,7 +66,7 @@ module _ (N M : ℕ) (img : List ℕ) (d : Desk) (s : ℕ) (f : ℕ → ℕ) (k 
       go false b (Published n) i = told (begin s) f d (refusal 6) refl
 
   -- abandon leaves the session idle
-  pub abandon-sim : AbandonSim (abandonReply d s) (dueOf N M f (abs d) k (abandon s))
+  pub abandon-sim : AbandonSim (abandonReply d s) (dueOf N M f (ceilingOf img) (abs d) k (abandon s))
   unfolding abandonReply abandonFault answered first
   abandon-sim = rw (desk-check N M img d h s) (go (leb M s) (leb-false M s) (e .phase))
     where
@@ -83,21 +78,3 @@ module _ (N M : ℕ) (img : List ℕ) (d : Desk) (s : ℕ) (f : ℕ → ℕ) (k 
       go false b (Active n) = emptied (abandon s) f d ok s (session-there N M img d h s (b refl)) refl
       go false b (Sealed n) = told (abandon s) f d (refusal 6) refl
       go false b (Published n) = told (abandon s) f d (refusal 6) refl
-
-  -- publish moves the clock on by one and takes it as the end
-  pub publish-sim : PublishSim (publishReply d s) (dueOf N M f (abs d) k (publish s))
-  unfolding publishReply publishFault answered first
-  publish-sim = rw (desk-check N M img d h s) (go (leb M s) (leb-false M s) (e .phase) refl)
-    where
-      go : (over : Bool) → (over ≡ false → s < M) → (p : Phase) → e .phase ≡ p
-          → PublishSim (answered (first (cond over 4 0) (unless (isSealed p) 6)) (publishRefused d) (published d s))
-          (cond over (refuse 4) (publishes (d .clock) (txn-of p (e .slot) (copiesOf e))))
-      go true b p i = told (publish s) f d (refusal 4) refl
-      go false b Idle i = told (publish s) f d (refusal 6) refl
-      go false b (Active n) i = told (publish s) f d (refusal 6) refl
-      go false b (Sealed n) i = record {
-        answers = rw add-one;
-        stored = refl;
-        desk = rw (add-one, i) (abs-put d (suc (d .clock)) (d .n) (d .m) s (withPhase e (Published (suc (d .clock)))) (d .holders) (session-there N M img d h s (b refl)));
-      }
-      go false b (Published n) i = told (publish s) f d (refusal 6) refl

@@ -9,7 +9,7 @@ use lib.Dec.{ltb, eqb}
 use lib.ListN.{length}
 use borrow.Author.Tests.{lt-ltb, le-ltb, le-leb, lt-leb, eq-eqb, ne-eqb}
 use Rattle.layout.specs.Checks.{unless, first, answered}
-use Rattle.layout.specs.Image.{placeOf, slotAt}
+use Rattle.layout.specs.Image.{placeOf, slotAt, ceilingOf}
 use Rattle.desk.specs.Desk.{sessionAt, isActive, idleSession, withPhase}
 use Rattle.desk.specs.Coherent.{limit}
 use Rattle.desk.specs.declared.state.Phase.{Phase}
@@ -86,7 +86,7 @@ module _ (N M : ℕ) (img : List ℕ) (d : Desk) (f : ℕ → ℕ) (len s : ℕ)
 
 pub finish-sim : (N M : ℕ) (img : List ℕ) (d : Desk) (f : ℕ → ℕ) (k : History) (len s : ℕ) → Ready N M img d
     → Sim (finish len s) f d (finishTold (finishReply img d len s .answer)) (finishEntries img d len s) (finishReply img d len s .desk)
-    (dueOf N M f (abs d) k (finish len s))
+    (dueOf N M f (ceilingOf img) (abs d) k (finish len s))
 unfolding finishReply finishEntries finishFault
 finish-sim N M img d f k len s h =
     past-four d f (finish-call d f len s) N M img len s _ _ h

@@ -9,6 +9,7 @@ use native.Mathlib.Numerals.{add-one}
 use lib.Dec.{leb, ltb, eqb}
 use lib.ListN.{length, getD}
 use borrow.Author.Tests.{leb-false, eq-eqb, ne-eqb, lt-ltb, le-ltb, ltb-true}
+use Rattle.layout.specs.Image.{ceilingOf}
 use Rattle.layout.specs.Below.{lowest}
 use Rattle.layout.specs.Checks.{unless, first, answered, roomFor}
 use Rattle.layout.specs.Entries.{Entry}
@@ -97,7 +98,7 @@ module _ (N M : ℕ) (img : List ℕ) (d : Desk) (f : ℕ → ℕ) (hist : Histo
   bare l [] z = eq-eqb (e .count) 0 (sym (count-is N M img d s h l) ∙ ap length z)
   bare l (c ∷ cs) z = ne-eqb (e .count) 0 (λ n. omega (arith, count-is N M img d s h l, ap length z))
 
-  pub listen-begin-sim : Sim (listen (Begin s)) f d (beginTold (beginReply d s .answer)) [] (beginReply d s .desk) (dueOf N M f (abs d) hist (listen (Begin s)))
+  pub listen-begin-sim : Sim (listen (Begin s)) f d (beginTold (beginReply d s .answer)) [] (beginReply d s .desk) (dueOf N M f (ceilingOf img) (abs d) hist (listen (Begin s)))
   listen-begin-sim = let a = begin-sim N M img d s f hist h in record { answers = a .answers; stored = a .stored; desk = a .desk }
 
   -- ---- finish
@@ -130,7 +131,7 @@ module _ (N M : ℕ) (img : List ℕ) (d : Desk) (f : ℕ → ℕ) (hist : Histo
     finish-by l (Published n) cs z = does-refuse d f finish-call 5
 
     pub listen-finish-sim : Sim (listen (Finish len s)) f d (finishTold (listenFinishReply img d len s .answer)) [] (listenFinishReply img d len s .desk)
-        (dueOf N M f (abs d) hist (listen (Finish len s)))
+        (dueOf N M f (ceilingOf img) (abs d) hist (listen (Finish len s)))
     unfolding listenFinishReply listenerFault
     listen-finish-sim =
         rw (unlisted (first (imageFault img d (roomFor len) s) (first (unless (isActive (e .phase)) 6) (unless (noCopies d s) 18)))) at
@@ -152,7 +153,7 @@ module _ (N M : ℕ) (img : List ℕ) (d : Desk) (f : ℕ → ℕ) (hist : Histo
       as-heard : (x : ReadReply) (y : Due) → Sim (read s r) f d (readTold (x .answer) (x .words)) [] (x .desk) y → ReadSim x y
       as-heard x y a = record { answers = a .answers; stored = a .stored; desk = a .desk }
 
-      pub listen-read-sim : ReadSim (listenReadReply img d s r) (dueOf N M f (abs d) hist (listen (Read s r)))
+      pub listen-read-sim : ReadSim (listenReadReply img d s r) (dueOf N M f (ceilingOf img) (abs d) hist (listen (Read s r)))
       unfolding listenReadReply listenReadFault readFault answered first
       listen-read-sim =
           rw (image-check N M img d h s, record-check N M img d h r) (go (leb M s) (leb N r) (leb-false M s) (leb-false N r) (e .phase) refl (copiesOf e) refl)
@@ -220,7 +221,7 @@ module _ (N M : ℕ) (img : List ℕ) (d : Desk) (f : ℕ → ℕ) (hist : Histo
               looks = record { number = rw (ends-due, h .n-same, y) refl; gives = λ r lr. look-due r lr };
             })))
 
-      find-sim : FindSim (findFault img d s k) (dueOf N M f (abs d) hist (listen (Find s k))) (looksOf N M (abs d) hist k (abs d .session s))
+      find-sim : FindSim (findFault img d s k) (dueOf N M f (ceilingOf img) (abs d) hist (listen (Find s k))) (looksOf N M (abs d) hist k (abs d .session s))
       unfolding findFault listenerFault first
       find-sim = rw (image-check N M img d h s) (go (shelfB k) (leb M s) (leb-false M s) (e .phase) refl (copiesOf e) refl)
         where
@@ -236,10 +237,10 @@ module _ (N M : ℕ) (img : List ℕ) (d : Desk) (f : ℕ → ℕ) (hist : Histo
           go true false b (Sealed n) i cs z = turned 5 _
           go true false b (Published n) i cs z = turned 5 _
 
-      pub find-told-sim : Sim (listen (Find s k)) f d (findTold (findReply img d s k .answer)) [] (findReply img d s k .desk) (dueOf N M f (abs d) hist (listen (Find s k)))
+      pub find-told-sim : Sim (listen (Find s k)) f d (findTold (findReply img d s k .answer)) [] (findReply img d s k .desk) (dueOf N M f (ceilingOf img) (abs d) hist (listen (Find s k)))
       unfolding findReply
       find-told-sim = find-sim .sim
 
       pub find-looks-sim : SameLooks (findLooks img d s k)
-          (cond (isRefusal (dueOf N M f (abs d) hist (listen (Find s k)) .answer)) noLooks (looksOf N M (abs d) hist k (abs d .session s)))
+          (cond (isRefusal (dueOf N M f (ceilingOf img) (abs d) hist (listen (Find s k)) .answer)) noLooks (looksOf N M (abs d) hist k (abs d .session s)))
       find-looks-sim = find-sim .looks

@@ -7,7 +7,7 @@ use native.Mathlib.Omega.{arith}
 use lib.Dec.{leb, ltb, eqb}
 use borrow.Author.Tests.{leb-false, ltb-true, ltb-false, ne-eqb}
 use Rattle.layout.specs.Checks.{unless, first, answered}
-use Rattle.layout.specs.Image.{homeWords}
+use Rattle.layout.specs.Image.{homeWords, ceilingOf}
 use Rattle.layout.proofs.Says.{by-test}
 use Rattle.desk.specs.Desk.{sessionAt, markAt, copyAt, isActive}
 use Rattle.desk.specs.declared.state.Phase.{Phase}
@@ -102,7 +102,7 @@ module _ (N M : ℕ) (img : List ℕ) (d : Desk) (s r : ℕ) (f : ℕ → ℕ) (
       quiet false ws = refl
 
   -- read gives the same words, and changes nothing
-  pub read-sim : ReadSim (readReply img d s r) (dueOf N M f (abs d) k (read s r))
+  pub read-sim : ReadSim (readReply img d s r) (dueOf N M f (ceilingOf img) (abs d) k (read s r))
   unfolding readReply readFault answered first
   read-sim = rw (image-check N M img d h s, record-check N M img d h r) (go (leb M s) (leb N r) (leb-false M s) (leb-false N r) (e .phase) refl)
     where

@@ -10,7 +10,7 @@ use native.Mathlib.Omega.{arith}
 use lib.Dec.{eqb, leb, ltb}
 use borrow.Author.Tests.{eqb-true, eqb-false, eq-eqb, ne-eqb, leb-true, leb-false, le-ltb, lt-ltb}
 use Rattle.layout.specs.Checks.{first, answered}
-use Rattle.layout.specs.Image.{placeOf, slotAt, persistAt}
+use Rattle.layout.specs.Image.{placeOf, slotAt, persistAt, ceilingOf}
 use Rattle.layout.specs.Oldest.{oldestOf}
 use Rattle.layout.specs.declared.oldest.Oldest.{Oldest}
 use Rattle.layout.proofs.Least.{oldest-is}
@@ -158,7 +158,7 @@ first-none (suc a) = refl
 
 pub reclaim-sim : (N M : ℕ) (img : List ℕ) (d : Desk) (k : History) (len s : ℕ) → Ready N M img d
     → Sim (reclaim len s) (view N img .number) d (reclaimTold (reclaimReply img d len s .answer)) (reclaimEntries img d len s) (reclaimReply img d len s .desk)
-    (dueOf N M (view N img .number) (abs d) k (reclaim len s))
+    (dueOf N M (view N img .number) (ceilingOf img) (abs d) k (reclaim len s))
 unfolding reclaimReply reclaimEntries reclaimFault
 reclaim-sim N M img d k len s h =
     rw (← (first-none (imageFault img d (roomFor len) s)))

@@ -9,6 +9,7 @@ use native.Mathlib.Decide.{ℕ-discrete, decLt}
 use native.Mathlib.Omega.{arith}
 use lib.Dec.{T as So, T-not, ltb}
 use borrow.Author.Tests.{eq-eqb, ne-eqb, ltb-true, ltb-false, not-true}
+use Rattle.layout.specs.Image.{ceilingOf}
 use Rattle.layout.specs.Below.{anyBelow}
 use Rattle.layout.specs.Oldest.{oldestOf}
 use Rattle.layout.specs.declared.oldest.Oldest.{Oldest}
@@ -220,7 +221,7 @@ module _ (N M : ℕ) (img : List ℕ) (d : Desk) (f : ℕ → ℕ) (len s : ℕ)
 
 pub settle-sim : (N M : ℕ) (img : List ℕ) (d : Desk) (f : ℕ → ℕ) (k : History) (len s : ℕ) → Ready N M img d
     → Sim (settle len s) f d (settleTold (settleReply img d len s .answer)) (settleEntries img d len s) (settleReply img d len s .desk)
-    (dueOf N M f (abs d) k (settle len s))
+    (dueOf N M f (ceilingOf img) (abs d) k (settle len s))
 unfolding settleReply settleEntries settleFault
 settle-sim N M img d f k len s h =
     past-four d f (settle-call d f len s) N M img len s _ _ h (λ l. by-phase N M img d f len s h l (sessionAt d s .phase) refl)

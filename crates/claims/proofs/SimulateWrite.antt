@@ -23,7 +23,7 @@ use Rattle.snapshot.specs.Own.{ownPlace}
 use Rattle.snapshot.specs.Write.{slotEmpty, emptySlot, copyFault, ownsB, writeFault, writeSays, writeRefused, overwritten, extended, reserved, copied, writeDone, writeReply}
 use Rattle.snapshot.specs.declared.writing.WriteReply.{WriteReply}
 use Rattle.snapshot.specs.declared.writing.WriteAnswer.the-variants.{Ok}
-use Rattle.layout.specs.Image.{placeOf}
+use Rattle.layout.specs.Image.{placeOf, ceilingOf}
 use Rattle.layout.specs.Told.{refused, refusal, ok}
 use Rattle.snapshot.specs.Told.{writeTold}
 use Rattle.history.specs.Call.{write}
@@ -180,7 +180,7 @@ module _ (N M : ℕ) (img : List ℕ) (d : Desk) (s r : ℕ) (ws : List ℕ) (k 
         rw (n, find-fresh r (copiesOf e) z, holder-named N M img d h r lr) (by-mark z (markAt d r) refl))
 
   -- write gives the same answer, and the same copies or none
-  pub write-sim : WriteSim (writeReply img d s r ws) (dueOf N M f (abs d) k (write s r ws))
+  pub write-sim : WriteSim (writeReply img d s r ws) (dueOf N M f (ceilingOf img) (abs d) k (write s r ws))
   unfolding writeReply writeFault writeRefused answered first
   write-sim = rw (image-check N M img d h s, record-check N M img d h r) (go (leb M s) (leb N r) (leb-false M s) (leb-false N r) (e .phase) refl)
     where

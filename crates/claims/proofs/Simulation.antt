@@ -1,14 +1,14 @@
 -- What it means that a call of the store gives what is due, and what image and desk are asked of.
-use Prim.Native.Nat.{ℕ, _<_}
+use Prim.Native.Nat.{ℕ, _<_, _≤_}
 use mathlib.Core.Path.{_≡_, sym, _∙_}
 use mathlib.Core.Bool.{Bool, true}
 use mathlib.Core.List.{List}
 use lib.Dec.{ltb}
 use lib.ListN.{length}
-use borrow.Author.Tests.{eq-eqb}
+use borrow.Author.Tests.{eq-eqb, le-leb}
 use Rattle.layout.specs.Checks.{unless, first}
 use Rattle.layout.specs.Entries.{Entry}
-use Rattle.layout.specs.Image.{recordsOf, sessionsOf, shapedB}
+use Rattle.layout.specs.Image.{recordsOf, sessionsOf, shapedB, ceilingOf}
 use Rattle.layout.specs.Told.{Told}
 use Rattle.desk.specs.Desk.{sessionAt}
 use Rattle.desk.specs.declared.state.Desk.{Desk}
@@ -32,6 +32,7 @@ pub record Ready (N M : ℕ) (img : List ℕ) (d : Desk) : Type 0 where
   pub sessions : sessionsOf img ≡ M
   pub n-same : d .n ≡ N
   pub m-same : d .m ≡ M
+  pub under : d .clock ≤ ceilingOf img
   pub coherent : Coherent d
   pub holders-long : length (d .holders) ≡ 256
   pub sessions-long : length (d .sessions) ≡ 16
@@ -41,4 +42,4 @@ pub record Ready (N M : ℕ) (img : List ℕ) (d : Desk) : Type 0 where
 pub ready-fault : (N M : ℕ) (img : List ℕ) (d : Desk) (room : Bool) (s : ℕ) → Ready N M img d → imageFault img d room s ≡ first (unless room 3) (unless (ltb s (d .m)) 4)
 unfolding entryFault first
 ready-fault N M img d room s h =
-    rw (h .shaped, says-coherent d .no (h .coherent), eq-eqb (d .n) (recordsOf img) (h .n-same ∙ sym (h .records)), eq-eqb (d .m) (sessionsOf img) (h .m-same ∙ sym (h .sessions)))
+    rw (h .shaped, says-coherent d .no (h .coherent), eq-eqb (d .n) (recordsOf img) (h .n-same ∙ sym (h .records)), eq-eqb (d .m) (sessionsOf img) (h .m-same ∙ sym (h .sessions)), le-leb (d .clock) (ceilingOf img) (h .under))

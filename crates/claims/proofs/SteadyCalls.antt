@@ -40,18 +40,18 @@ use Rattle.claims.proofs.Sessions.{idle-in, idle-none}
 use Rattle.claims.proofs.Steady.{Steady, Kept, adds, phase-kept, drop-kept, overwrite-kept, copy-kept}
 
 -- the desk of an opened store, where nothing is marked
-pub fresh-steady : (n m : ℕ) → 1 ≤ n → n ≤ 256 → 1 ≤ m → m ≤ 16 → Steady (freshDesk 1 n m)
-fresh-steady n m n-low n-high m-low m-high =
+pub fresh-steady : (clock n m : ℕ) → 1 ≤ clock → clock ≤ limit → 1 ≤ n → n ≤ 256 → 1 ≤ m → m ≤ 16 → Steady (freshDesk clock n m)
+fresh-steady clock n m c-low c-high n-low n-high m-low m-high =
     record {
       coherent =
           record {
-            clock-low = omega arith;
-            clock-high = omega (arith, count-most (sealedAt (freshDesk 1 n m)) 16);
+            clock-low = c-low;
+            clock-high = omega (arith, count-most (sealedAt (freshDesk clock n m)) 16);
             n-low = n-low;
             n-high = n-high;
             m-low = m-low;
             m-high = m-high;
-            session = λ s l. rw (idle s l) (idle-in 1 n);
+            session = λ s l. rw (idle s l) (idle-in clock n);
             idle = λ s l. inr (rw (idle s l));
             marks = λ k l.
                 rw (getD-replicate {A = ℕ} 256 k 0 0 l)
@@ -61,7 +61,7 @@ fresh-steady n m n-low n-high m-low m-high =
     }
   where
     -- every session is idle
-    idle : (s : ℕ) → s < 16 → sessionAt (freshDesk 1 n m) s ≡ idleSession
+    idle : (s : ℕ) → s < 16 → sessionAt (freshDesk clock n m) s ≡ idleSession
     idle s l = getD-replicate 16 s idleSession noSession l
 
 -- what holds of a call's refusal and of what it does holds of its answer
@@ -90,16 +90,16 @@ abandon-kept d s h =
     (λ z. drop-kept d s h (desk-entered d s (first-both (deskFault d s) _ z .0) .below-m))
 
 -- publish puts the session into another phase; the clock moves on by one, and one session less is sealed
-pub publish-kept : (d : Desk) (s : ℕ) → Steady d → Kept d (publishReply d s .desk)
+pub publish-kept : (img : List ℕ) (d : Desk) (len s : ℕ) → Steady d → Kept d (publishReply img d len s .desk)
 unfolding publishReply publishFault
-publish-kept d s h =
-    by-answer (λ r. Kept d (r .desk)) (publishFault d s) (publishRefused d) (published d s) (unchanged d h)
-    (λ z. let f = first-both (deskFault d s) _ z in
-    let e = desk-entered d s (f .0) in
+publish-kept img d len s h =
+    by-answer (λ r. Kept d (r .desk)) (publishFault img d len s) (publishRefused d) (published img d s) (unchanged d h)
+    (λ z. let f = first-both (imageFault img d (roomFor len) s) _ z in
+    let e = image-entered img d (roomFor len) s (f .0) in
     let sealed = unless-zero (sealedAt d s) 5 (f .1) in
     let a = ap adds sealed in
-    phase-kept d s h (e .below-m) (Published (d .clock + 1)) (d .clock + 1) (omega arith) (inl (omega arith))
-    (copies-some d (h .coherent) s (e .below-16) (rw sealed), copies-four d (h .coherent) s (e .below-16))
+    phase-kept d s h (e .below) (Published (d .clock + 1)) (d .clock + 1) (omega arith) (inl (omega arith))
+    (copies-some d (h .coherent) s (e .small) (rw sealed), copies-four d (h .coherent) s (e .small))
     (omega (arith, h .coherent .clock-low), omega arith))
 
 -- checks that refuse with a number above those of the first ones have passed these

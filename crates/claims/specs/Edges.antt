@@ -31,9 +31,9 @@ use Rattle.commit.specs.declared.finishing.FinishAnswer.the-variants.{Sealed as
 use Rattle.commit.specs.declared.reclaiming.ReclaimAnswer.the-variants.{Held, Cleared}
 use Rattle.recovery.specs.declared.recovering.RecoverAnswer.the-variants.{Clean, Replayed}
 
--- a store of 8 records and 2 sessions
+-- a store of 8 records and 2 sessions, with word 3 high enough (document 02, Req 05)
 abbrev pub image : List ℕ
-image = emptyImage 8 2
+image = set (emptyImage 8 2) 3 (limit + 16)
 
 -- the same with word w of the slot at place p set
 abbrev pub withSlot : ℕ → ℕ → ℕ → List ℕ → List ℕ
@@ -88,8 +88,8 @@ pub record Edges : Type 0 where
   -- A: N 256, M 16: 1,732 words pass, 1,731 give 1
   pub a-lay : layTold (layAnswer 256 16 (replicate 1732 9)) ≡ ok
   pub a-lay-short : layTold (layAnswer 256 16 (replicate 1731 9)) ≡ refusal 1
-  pub a-open : openTold (openReply (emptyImage 256 16) .answer) ≡ ok
-  pub a-open-short : openTold (openReply (take 1731 (emptyImage 256 16)) .answer) ≡ refusal 1
+  pub a-open : openTold (openReply (emptyImage 256 16) 48 .answer) ≡ ok
+  pub a-open-short : openTold (openReply (take 1731 (emptyImage 256 16)) 48 .answer) ≡ refusal 1
   -- B: N 257 gives 14, though the length is wrong too
   pub b : layTold (layAnswer 257 16 (replicate 1732 9)) ≡ refusal 14
   -- C: start 6, holder's end 6: copy; D: start 5, end 6: home

@@ -1,5 +1,6 @@
 -- Document 01, "To the testers" and "Wrong turns", and wrong readings of document 02: each impostor is the store's rules with one change, and
--- does not meet the demand that it breaks. Every one opens as the store does, for without an opening there is no list of calls.
+-- does not meet the demand that it breaks. Every one opens as the store does, for without an opening there is no list of calls;
+-- those of Req 05 list other entries in it.
 use Prim.Native.Nat.{ℕ, zero, suc, _+_, _-_}
 use mathlib.Core.Bool.{Bool, _&&_, _||_, not, cond}
 use mathlib.Core.List.{List, [], _∷_, _++_}
@@ -12,6 +13,7 @@ use Rattle.layout.specs.Oldest.{oldestOf}
 use Rattle.layout.specs.Tidy.{Tidy}
 use Rattle.layout.specs.Told.{Told, refused, result, refusal, copied, home, wait, nothing, held, cleared, clean, replayed, foundAt, is, isRefusal, wordsTold, Ok, Home, Wait, Held}
 use Rattle.desk.specs.Desk.{sessionAt, markAt, copyAt, isSealed, isPublished}
+use Rattle.desk.specs.Publish.{publishFault}
 use Rattle.desk.specs.declared.state.Desk.{Desk}
 use Rattle.snapshot.specs.Own.{ownPlace, zeroWords}
 use Rattle.snapshot.specs.Read.{holderEntry}
@@ -21,7 +23,8 @@ use Rattle.commit.specs.Reclaim.{chosen, clearEntries}
 use Rattle.recovery.specs.Recover.{slotsOf, cleanB, firstLog, replayEntries}
 use Rattle.history.specs.Call.{Listening, Begin, Read, Finish, Find, Call, begin, read, write, abandon, finish, publish, settle, reclaim, listen}
 use Rattle.claims.specs.Rules.{Reply, Recovery, Rules, tells, searching, storeRules}
-use Rattle.claims.specs.Demands.{Demand2, Demand3}
+use Rattle.claims.specs.Demands.{Demand2, OpeningStores, PublishStores, Demand3}
+use Rattle.claims.specs.Fresh.{Fresh}
 
 -- ---- the store's rules with a change
 
@@ -37,7 +40,7 @@ kindOf (begin s) = 1
 kindOf (read s r) = 2
 kindOf (write s r ws) = 3
 kindOf (finish len s) = 4
-kindOf (publish s) = 5
+kindOf (publish len s) = 5
 kindOf (settle len s) = 6
 kindOf (reclaim len s) = 7
 kindOf (abandon s) = 8
@@ -54,7 +57,7 @@ sessionOf (begin s) = s
 sessionOf (read s r) = s
 sessionOf (write s r ws) = s
 sessionOf (finish len s) = s
-sessionOf (publish s) = s
+sessionOf (publish len s) = s
 sessionOf (settle len s) = s
 sessionOf (reclaim len s) = s
 sessionOf (abandon s) = s
@@ -218,7 +221,7 @@ recordRead (begin s) = 0
 recordRead (read s r) = r
 recordRead (write s r ws) = r
 recordRead (finish len s) = 0
-recordRead (publish s) = 0
+recordRead (publish len s) = 0
 recordRead (settle len s) = 0
 recordRead (reclaim len s) = 0
 recordRead (abandon s) = 0
@@ -268,7 +271,7 @@ sought (begin s) = 0
 sought (read s r) = 0
 sought (write s r ws) = 0
 sought (finish len s) = 0
-sought (publish s) = 0
+sought (publish len s) = 0
 sought (settle len s) = 0
 sought (reclaim len s) = 0
 sought (abandon s) = 0
@@ -309,6 +312,24 @@ findingBy look seek img d c y =
 abbrev pub findsBy : (List ℕ → Desk → ℕ → ℕ → Told) → (ℕ → (ℕ → Bool) → Search) → Rules
 findsBy look seek = past 19 (findingBy look seek)
 
+-- ---- impostors that break document 02's Req 05
+
+-- opening, with its list of entries changed
+abbrev pub openingBy : (List Entry → List Entry) → Rules
+openingBy g =
+    record {
+      opens = λ img len.
+          let y = storeRules .opens img len in record { told = y .told; entries = g (y .entries); count = length (g (y .entries)); desk = y .desk };
+      call = storeRules .call;
+      recover = storeRules .recover;
+    }
+
+-- word 3 is stored as the clock, not 1,024 above it
+abbrev pub clockAlone : List Entry → List Entry
+clockAlone [] = []
+clockAlone (store i w ∷ es) = store i (w - 1024) ∷ clockAlone es
+clockAlone (fence ∷ es) = fence ∷ clockAlone es
+
 -- ---- the claim
 
 pub record Impostors : Type 0 where
@@ -343,3 +364,11 @@ pub record Impostors : Type 0 where
   pub looks-home : Demand3 (findsBy asHome firstEnd) → ⊥
   pub looks-last : Demand3 (findsBy asRead lastEnd) → ⊥
   pub looks-early : Demand3 (findsBy asRead earlyEnd) → ⊥
+  -- word 3 stored without its fence, not stored at all, and stored too low by opening; a publish that does not raise, and one that leaves
+  -- out the fence of its raise
+  pub opens-unfenced : Fresh (openingBy withoutLast) → ⊥
+  pub opens-unraised : Fresh (openingBy (λ es. [])) → ⊥
+  pub opens-at-clock : OpeningStores (openingBy clockAlone) → ⊥
+  pub publish-unraised : PublishStores (past 5 (relisting (λ es. []))) → ⊥
+  pub publish-unfenced : ((img : List ℕ) (d : Desk) (len s : ℕ)
+      → Tidy (publishFault img d len s) (unfencedAt 5 .call img d (publish len s) .count) (unfencedAt 5 .call img d (publish len s) .entries)) → ⊥

@@ -7,16 +7,21 @@ use Rattle.layout.specs.Tidy.{Tidy}
 use Rattle.journal.specs.Lengths.{finishLength, settleLength, recoverLength}
 use Rattle.journal.specs.Log.{countOf}
 use Rattle.desk.specs.Desk.{sessionAt}
+use Rattle.desk.specs.Publish.{publishFault, publishEntries, publishReply}
 use Rattle.desk.specs.declared.state.Desk.{Desk}
 use Rattle.commit.specs.Finish.{finishFault, finishEntries, sealEntries, finishReply}
 use Rattle.commit.specs.Settle.{settleFault, settleEntries, goHomeEntries, settleReply}
 use Rattle.commit.specs.Reclaim.{reclaimFault, reclaimEntries, clearEntries, reclaimReply}
 use Rattle.listening.specs.Finish.{listenFinishReply}
+use Rattle.recovery.specs.Open.{openFault, openEntries, openReply}
 use Rattle.recovery.specs.Recover.{logAt, recoverFault, recoverEntries, replayEntries, recoverReply}
 
 pub record Lists : Type 0 where
+  pub opens : (img : List ℕ) (len : ℕ) → Tidy (openFault img len) (openReply img len .entries) (openEntries img len)
   pub finish : (img : List ℕ) (d : Desk) (len s : ℕ)
       → Tidy (finishFault img d len s) (finishReply img d len s .entries) (finishEntries img d len s)
+  pub publish : (img : List ℕ) (d : Desk) (len s : ℕ)
+      → Tidy (publishFault img d len s) (publishReply img d len s .entries) (publishEntries img d len s)
   pub settle : (img : List ℕ) (d : Desk) (len s : ℕ)
       → Tidy (settleFault img d len s) (settleReply img d len s .entries) (settleEntries img d len s)
   pub reclaim : (img : List ℕ) (d : Desk) (len s : ℕ)

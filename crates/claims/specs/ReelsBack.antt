@@ -33,7 +33,7 @@ besides s r (read t q) = true
 besides s r (write t q ws) = not (eqb t s && eqb q r)
 besides s r (abandon t) = true
 besides s r (finish len t) = true
-besides s r (publish t) = true
+besides s r (publish len t) = true
 besides s r (settle len t) = true
 besides s r (reclaim len t) = true
 besides s r (listen c) = besidesListening s c
@@ -63,6 +63,6 @@ module _ (w : World) (s r : ℕ) (reel : Reel) where
 
 -- from any image that opens, behind any list of calls, a reel that the library writes
 abbrev pub ReelsBack : Type 0
-ReelsBack = (img : List ℕ) → storeRules .opens img .told ≡ ok → (earlier : List Call) (s r : ℕ) (reel : Reel)
-    → let w = run storeRules earlier (opened storeRules img) in
+ReelsBack = (img : List ℕ) (len : ℕ) → storeRules .opens img len .told ≡ ok → (earlier : List Call) (s r : ℕ) (reel : Reel)
+    → let w = run storeRules earlier (opened storeRules img len) in
     writeReelReply (w .image) (w .desk) s r reel .answer ≡ Ok → SameReel w s r reel

@@ -1,4 +1,4 @@
--- Document 01, "What is turned away", with the listening room's rows (document 02, Req 03), as one table: the causes with their numbers, and
+-- Document 01, "What is turned away", with document 02's Req 03 and 05, as one table: the causes with their numbers, and
 -- for each call the row of causes that it asks, in order. The number told is that of the first cause in the row that holds, 0 where none
 -- does; with it go the values that the table lists, and a refusal leaves as it was what the table says.
 use Prim.Native.Nat.{ℕ, _+_, _-_, _*_}
@@ -9,7 +9,7 @@ use lib.ListN.{length}
 use lib.Dec.{leb, ltb, eqb}
 use Rattle.layout.specs.Below.{anyBelow, lowest}
 use Rattle.layout.specs.Entries.{Entry, made, listed}
-use Rattle.layout.specs.Image.{recordsOf, sessionsOf, inRange, sizeOf, shapedB, placeOf, slotWord, occupiedAt, occupiedB}
+use Rattle.layout.specs.Image.{recordsOf, sessionsOf, ceilingOf, inRange, sizeOf, shapedB, placeOf, slotWord, occupiedAt, occupiedB}
 use Rattle.layout.specs.Lay.{layAnswer, laidImage}
 use Rattle.layout.specs.Told.{Told, refused, isRefusal, layTold}
 use Rattle.journal.specs.Log.{unsoundB, tiedB}
@@ -31,9 +31,9 @@ pub data Cause : Type 0 where
   -- image length or header wrong; of lay the length alone
   wrongImage : Cause
   wrongLength : Cause
-  -- desk not coherent; where the call takes an image, N and M are to equal its header
+  -- desk not coherent; where the call takes an image, N and M are to equal its header and the clock is to be at most its word 3
   incoherent : Cause
-  otherSize : Cause
+  otherHeader : Cause
   shortTrace : Cause
   noSession : Cause
   noRecord : Cause
@@ -42,6 +42,8 @@ pub data Cause : Type 0 where
   fifthRecord : Cause
   slotsFull : Cause
   clockAtLimit : Cause
+  -- of open: word 3 is at L or more
+  ceilingAtLimit : Cause
   slotOccupied : Cause
   logUnsound : Cause
   logsTied : Cause
@@ -54,7 +56,7 @@ abbrev pub number : Cause → ℕ
 number wrongImage = 1
 number wrongLength = 1
 number incoherent = 2
-number otherSize = 2
+number otherHeader = 2
 number shortTrace = 3
 number noSession = 4
 number noRecord = 5
@@ -63,6 +65,7 @@ number otherHolds = 7
 number fifthRecord = 8
 number slotsFull = 9
 number clockAtLimit = 10
+number ceilingAtLimit = 10
 number slotOccupied = 11
 number logUnsound = 12
 number logsTied = 13
@@ -109,7 +112,8 @@ unfoldable pub holds : Cause → Given → Bool
 holds wrongImage g = not (shapedB (g .image))
 holds wrongLength g = not (eqb (length (g .image)) (sizeOf (g .n) (g .m)))
 holds incoherent g = not (coherentB (g .desk))
-holds otherSize g = not (eqb (g .desk .n) (recordsOf (g .image)) && eqb (g .desk .m) (sessionsOf (g .image)))
+holds otherHeader g =
+    not (eqb (g .desk .n) (recordsOf (g .image)) && eqb (g .desk .m) (sessionsOf (g .image)) && leb (g .desk .clock) (ceilingOf (g .image)))
 holds shortTrace g = ltb (g .trace) 48
 holds noSession g = leb (g .desk .m) (g .session)
 holds noRecord g = leb (g .desk .n) (g .rec)
@@ -118,6 +122,7 @@ holds otherHolds g = markedOther (markAt (g .desk) (g .rec)) (g .session)
 holds fifthRecord g = not (markedOwn (markAt (g .desk) (g .rec)) (g .session)) && leb 4 (copiesCounted g)
 holds slotsFull g = eqb (copiesCounted g) 0 && slotTaken g 0 && slotTaken g 1
 holds clockAtLimit g = not (eqb (copiesCounted g) 0) && leb limit (g .desk .clock)
+holds ceilingAtLimit g = leb limit (ceilingOf (g .image))
 holds slotOccupied g = occupiedB (g .image) (recordsOf (g .image)) (2 * sessionsOf (g .image))
 holds logUnsound g = anyBelow (2 * sessionsOf (g .image)) (unsoundAt (g .image))
 holds logsTied g = anyBelow (2 * sessionsOf (g .image)) (λ p. anyBelow p (tiedAt (g .image) p))
@@ -130,33 +135,33 @@ unfoldable pub firstRefusal : List Cause → Given → ℕ
 firstRefusal [] g = 0
 firstRefusal (c ∷ row) g = cond (holds c g) (number c) (firstRefusal row g)
 
--- ---- the rows
+-- ---- the rows; open asks 10 after 11
 
 abbrev pub layRow : List Cause
 layRow = outOfRange ∷ wrongLength ∷ []
 
 abbrev pub openRow : List Cause
-openRow = wrongImage ∷ slotOccupied ∷ []
+openRow = wrongImage ∷ shortTrace ∷ slotOccupied ∷ ceilingAtLimit ∷ []
 
 abbrev pub recoverRow : List Cause
 recoverRow = wrongImage ∷ shortTrace ∷ logUnsound ∷ logsTied ∷ []
 
 abbrev pub listeningRow : Listening → List Cause
 listeningRow (Begin s) = incoherent ∷ noSession ∷ wrongPhase ∷ []
-listeningRow (Read s r) = wrongImage ∷ incoherent ∷ otherSize ∷ noSession ∷ noRecord ∷ wrongPhase ∷ copiesHeld ∷ []
-listeningRow (Finish len s) = wrongImage ∷ incoherent ∷ otherSize ∷ shortTrace ∷ noSession ∷ wrongPhase ∷ copiesHeld ∷ []
-listeningRow (Find s k) = wrongShelf ∷ wrongImage ∷ incoherent ∷ otherSize ∷ noSession ∷ wrongPhase ∷ copiesHeld ∷ []
+listeningRow (Read s r) = wrongImage ∷ incoherent ∷ otherHeader ∷ noSession ∷ noRecord ∷ wrongPhase ∷ copiesHeld ∷ []
+listeningRow (Finish len s) = wrongImage ∷ incoherent ∷ otherHeader ∷ shortTrace ∷ noSession ∷ wrongPhase ∷ copiesHeld ∷ []
+listeningRow (Find s k) = wrongShelf ∷ wrongImage ∷ incoherent ∷ otherHeader ∷ noSession ∷ wrongPhase ∷ copiesHeld ∷ []
 
 abbrev pub row : Call → List Cause
 row (begin s) = incoherent ∷ noSession ∷ wrongPhase ∷ []
-row (read s r) = wrongImage ∷ incoherent ∷ otherSize ∷ noSession ∷ noRecord ∷ wrongPhase ∷ []
+row (read s r) = wrongImage ∷ incoherent ∷ otherHeader ∷ noSession ∷ noRecord ∷ wrongPhase ∷ []
 row (write s r ws) =
-    wrongImage ∷ incoherent ∷ otherSize ∷ noSession ∷ noRecord ∷ wrongPhase ∷ otherHolds ∷ fifthRecord ∷ slotsFull ∷ []
+    wrongImage ∷ incoherent ∷ otherHeader ∷ noSession ∷ noRecord ∷ wrongPhase ∷ otherHolds ∷ fifthRecord ∷ slotsFull ∷ []
 row (abandon s) = incoherent ∷ noSession ∷ wrongPhase ∷ []
-row (finish len s) = wrongImage ∷ incoherent ∷ otherSize ∷ shortTrace ∷ noSession ∷ wrongPhase ∷ clockAtLimit ∷ []
-row (publish s) = incoherent ∷ noSession ∷ wrongPhase ∷ []
-row (settle len s) = wrongImage ∷ incoherent ∷ otherSize ∷ shortTrace ∷ noSession ∷ wrongPhase ∷ []
-row (reclaim len s) = wrongImage ∷ incoherent ∷ otherSize ∷ shortTrace ∷ noSession ∷ []
+row (finish len s) = wrongImage ∷ incoherent ∷ otherHeader ∷ shortTrace ∷ noSession ∷ wrongPhase ∷ clockAtLimit ∷ []
+row (publish len s) = wrongImage ∷ incoherent ∷ otherHeader ∷ shortTrace ∷ noSession ∷ wrongPhase ∷ []
+row (settle len s) = wrongImage ∷ incoherent ∷ otherHeader ∷ shortTrace ∷ noSession ∷ wrongPhase ∷ []
+row (reclaim len s) = wrongImage ∷ incoherent ∷ otherHeader ∷ shortTrace ∷ noSession ∷ []
 row (listen c) = listeningRow c
 
 -- ---- what the calls are given
@@ -183,7 +188,7 @@ given img d (read s r) = ofCall img d 0 s r 0 isActive
 given img d (write s r ws) = ofCall img d 0 s r 0 isActive
 given img d (abandon s) = ofCall img d 0 s 0 0 isActive
 given img d (finish len s) = ofCall img d len s 0 0 isActive
-given img d (publish s) = ofCall img d 0 s 0 0 isSealed
+given img d (publish len s) = ofCall img d len s 0 0 isSealed
 given img d (settle len s) = ofCall img d len s 0 0 isPublished
 given img d (reclaim len s) = ofCall img d len s 0 0 (λ p. true)
 given img d (listen c) = givenListening img d c
@@ -212,8 +217,9 @@ pub record Refusals : Type 0 where
   pub lay : (n m : ℕ) (img : List ℕ)
       → TurnedAway (layTold (layAnswer n m img)) (firstRefusal layRow (ofImage img 0 n m)) 0 (laidImage n m img) img
   -- refused, it gives a desk with clock, N and M 0, all idle, unmarked
-  pub opens : (img : List ℕ)
-      → TurnedAway (storeRules .opens img .told) (firstRefusal openRow (ofImage img 0 0 0)) 0 (storeRules .opens img .desk) (freshDesk 0 0 0)
+  pub opens : (img : List ℕ) (len : ℕ)
+      → TurnedAway (storeRules .opens img len .told) (firstRefusal openRow (ofImage img len 0 0)) 0
+      (storeRules .opens img len .desk) (freshDesk 0 0 0)
   -- 7 names the holder, and leaves the caller idle with its marks and copies dropped; any other refusal leaves the desk
   pub calls : (img : List ℕ) (d : Desk) (c : Call)
       → TurnedAway (storeRules .call img d c .told) (firstRefusal (row c) (given img d c))
@@ -230,6 +236,8 @@ pub record Refusals : Type 0 where
   pub listen-read-words : (img : List ℕ) (d : Desk) (s r : ℕ)
       → (firstRefusal (listeningRow (Read s r)) (givenListening img d (Read s r)) ≡ 0 → ⊥) → listenReadReply img d s r .words ≡ zeroWords
   -- a refusal stores nothing
+  pub opens-store : (img : List ℕ) (len : ℕ) → (firstRefusal openRow (ofImage img len 0 0) ≡ 0 → ⊥)
+      → StoresNothing (storeRules .opens img len .count) (storeRules .opens img len .entries)
   pub calls-store : (img : List ℕ) (d : Desk) (c : Call) → (firstRefusal (row c) (given img d c) ≡ 0 → ⊥)
       → StoresNothing (storeRules .call img d c .count) (storeRules .call img d c .entries)
   pub recover-stores : (img : List ℕ) (len : ℕ) → (firstRefusal recoverRow (ofImage img len 0 0) ≡ 0 → ⊥)

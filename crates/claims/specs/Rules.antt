@@ -6,7 +6,7 @@ use Rattle.layout.specs.Entries.{Entry}
 use Rattle.layout.specs.Told.{Told}
 use Rattle.desk.specs.Begin.{beginReply}
 use Rattle.desk.specs.Abandon.{abandonReply}
-use Rattle.desk.specs.Publish.{publishReply}
+use Rattle.desk.specs.Publish.{publishReply, publishEntries}
 use Rattle.desk.specs.Told.{beginTold, abandonTold, publishTold}
 use Rattle.desk.specs.declared.state.Desk.{Desk}
 use Rattle.snapshot.specs.Read.{readReply}
@@ -16,7 +16,7 @@ use Rattle.commit.specs.Finish.{finishReply, finishEntries}
 use Rattle.commit.specs.Settle.{settleReply, settleEntries}
 use Rattle.commit.specs.Reclaim.{reclaimReply, reclaimEntries}
 use Rattle.commit.specs.Told.{finishTold, settleTold, reclaimTold}
-use Rattle.recovery.specs.Open.{openReply}
+use Rattle.recovery.specs.Open.{openReply, openEntries}
 use Rattle.recovery.specs.Recover.{recoverReply, recoverEntries}
 use Rattle.recovery.specs.Told.{openTold, recoverTold}
 use Rattle.listening.specs.Read.{listenReadReply}
@@ -26,9 +26,11 @@ use Rattle.listening.specs.Told.{findTold}
 use Rattle.history.specs.Call.{Listening, Begin, Read, Finish, Find, Call, begin, read, write, abandon, finish, publish, settle, reclaim, listen}
 use Rattle.history.specs.Looks.{Looks, noLooks}
 
--- what opening gives
+-- what opening gives: what it tells, the entries that it stores, the number of entries that it answers, and the desk
 pub record Opening : Type 0 where
   pub told : Told
+  pub entries : List Entry
+  pub count : ℕ
   pub desk : Desk
 
 -- what a session call gives: what it tells, the entries that it stores, the number of entries that it answers, the desk, and the records
@@ -46,9 +48,9 @@ pub record Recovery : Type 0 where
   pub entries : List Entry
   pub count : ℕ
 
--- a session call has an image and a desk, recover an image and the length of its trace
+-- opening and recover have an image and the length of their trace, a session call an image and a desk
 pub record Rules : Type 0 where
-  pub opens : List ℕ → Opening
+  pub opens : List ℕ → ℕ → Opening
   pub call : List ℕ → Desk → Call → Reply
   pub recover : List ℕ → ℕ → Recovery
 
@@ -91,7 +93,14 @@ storeCall img d (finish len s) =
       desk = finishReply img d len s .desk;
       looks = noLooks;
     }
-storeCall img d (publish s) = tells (publishTold (publishReply d s .answer)) (publishReply d s .desk)
+storeCall img d (publish len s) =
+    record {
+      told = publishTold (publishReply img d len s .answer);
+      entries = publishEntries img d len s;
+      count = publishReply img d len s .entries;
+      desk = publishReply img d len s .desk;
+      looks = noLooks;
+    }
 storeCall img d (settle len s) =
     record {
       told = settleTold (settleReply img d len s .answer);
@@ -114,7 +123,13 @@ storeCall img d (listen c) = listeningCall img d c
 abbrev pub storeRules : Rules
 storeRules =
     record {
-      opens = λ img. record { told = openTold (openReply img .answer); desk = openReply img .desk };
+      opens = λ img len.
+          record {
+            told = openTold (openReply img len .answer);
+            entries = openEntries img len;
+            count = openReply img len .entries;
+            desk = openReply img len .desk;
+          };
       call = storeCall;
       recover = λ img len.
           record { told = recoverTold (recoverReply img len .answer); entries = recoverEntries img len; count = recoverReply img len .entries };

@@ -1,8 +1,8 @@
 -- Lists of calls from an opening, by given rules.
-use Prim.Native.Nat.{ℕ}
+use Prim.Native.Nat.{ℕ, _+_}
 use mathlib.Core.List.{List, [], _∷_, _++_}
 use Rattle.layout.specs.Entries.{Entry, made}
-use Rattle.layout.specs.Image.{homeWords}
+use Rattle.layout.specs.Image.{ceilingOf, homeWords}
 use Rattle.desk.specs.declared.state.Desk.{Desk}
 use Rattle.history.specs.Call.{Call}
 use Rattle.history.specs.Desk.{idle}
@@ -15,17 +15,20 @@ pub record World : Type 0 where
   pub desk : Desk
   pub ledger : Ledger
 
--- the ledger at the opening: clock 1, all idle, all slots empty, the opening records and an empty list
+-- the ledger at the opening: the clock is word 3 plus 1 and the new ceiling 1,024 above it (document 02, Req 05), all idle, all slots empty,
+-- the opening records and an empty list
 abbrev pub openLedger : List ℕ → Ledger
 openLedger img =
     record {
-      desk = record { clock = 1; session = λ s. idle };
+      desk = record { clock = ceilingOf img + 1; session = λ s. idle };
       number = λ p. 0;
+      ceiling = ceilingOf img + 1 + 1024;
       history = record { opening = homeWords img; sealed = []; draft = λ s. []; start = λ s. 0 };
     }
 
-abbrev pub opened : Rules → List ℕ → World
-opened R img = record { image = img; desk = R .opens img .desk; ledger = openLedger img }
+-- behind an opening with a trace of len words: its stores are made
+abbrev pub opened : Rules → List ℕ → ℕ → World
+opened R img len = record { image = made (R .opens img len .entries) img; desk = R .opens img len .desk; ledger = openLedger img }
 
 -- what a call gives
 unfoldable pub reply : Rules → World → Call → Reply
@@ -43,3 +46,7 @@ run R (c ∷ cs) w = run R cs (step R w c)
 unfoldable pub stored : Rules → List Call → World → List Entry
 stored R [] w = []
 stored R (c ∷ cs) w = reply R w c .entries ++ stored R cs (step R w c)
+
+-- all since the opening, its own entries first
+abbrev pub sinceOpening : Rules → List ℕ → ℕ → List Call → List Entry
+sinceOpening R img len calls = R .opens img len .entries ++ stored R calls (opened R img len)

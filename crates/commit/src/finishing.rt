@@ -9,6 +9,7 @@ ghost use Rattle.desk.specs.Coherent.{limit};
 ghost use Rattle.commit.specs.Finish.{finishEntries, finishReply, finishSaid};
 ghost use Rattle.commit.specs.Told.{finishTold};
 use desk::Desk;
+use desk::LIMIT;
 use desk::Phase;
 use desk::coherent;
 use desk::entry_fault;
@@ -27,9 +28,6 @@ pub struct FinishReply {
     pub entries: u64,
     pub desk: Desk,
 }
-
-// L: a finish with copies is refused from this clock on.
-const LIMIT: u64 = 4_611_686_018_427_387_904;
 
 // Refusal 6 or 10, or 0 where there is none.
 fn seal_fault(active: bool, count: u64, clock: u64) -> u64
@@ -65,9 +63,10 @@ pub fn finish(image: &mut [u64], mut desk: Desk, trace: &mut [u64], session: u64
     ensures told { λ r. ⌜ finishTold (r .answer) ≡ finishSaid (now (image .entry)) desk (length (now (trace .entry))) session ⌝ }
 {
     let sound = coherent(desk);
+    let clock = desk.clock;
     let n = desk.n;
     let m = desk.m;
-    let fault = entry_fault(image, sound, n, m, 48 <= trace.len(), session);
+    let fault = entry_fault(image, sound, clock, n, m, 48 <= trace.len(), session);
     if fault != 0 {
         return gives(desk, FinishAnswer::Refused(fault), 0);
     }
@@ -75,7 +74,6 @@ pub fn finish(image: &mut [u64], mut desk: Desk, trace: &mut [u64], session: u64
     let e = desk.sessions[i];
     let p = e.phase;
     let count = e.count;
-    let clock = desk.clock;
     let shut = seal_fault(is_active(p), count, clock);
     if shut != 0 {
         return gives(desk, FinishAnswer::Refused(shut), 0);

@@ -75,9 +75,10 @@ pub fn reclaim(image: &mut [u64], desk: Desk, trace: &mut [u64], session: u64) -
     ensures told { λ r. ⌜ reclaimTold (r .answer) ≡ reclaimSaid (now (image .entry)) desk (length (now (trace .entry))) session ⌝ }
 {
     let sound = coherent(desk);
+    let clock = desk.clock;
     let n = desk.n;
     let m = desk.m;
-    let fault = entry_fault(image, sound, n, m, 48 <= trace.len(), session);
+    let fault = entry_fault(image, sound, clock, n, m, 48 <= trace.len(), session);
     if fault != 0 {
         return answers(desk, ReclaimAnswer::Refused(fault), 0);
     }

@@ -75,9 +75,10 @@ pub fn settle(image: &mut [u64], mut desk: Desk, trace: &mut [u64], session: u64
     ensures told { λ r. ⌜ settleTold (r .answer) ≡ settleSaid (now (image .entry)) desk (length (now (trace .entry))) session ⌝ }
 {
     let sound = coherent(desk);
+    let clock = desk.clock;
     let n = desk.n;
     let m = desk.m;
-    let fault = entry_fault(image, sound, n, m, 48 <= trace.len(), session);
+    let fault = entry_fault(image, sound, clock, n, m, 48 <= trace.len(), session);
     if fault != 0 {
         return answers(desk, SettleAnswer::Refused(fault), 0);
     }

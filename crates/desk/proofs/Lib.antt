@@ -6,4 +6,5 @@ pub mod Facts
 pub mod Sizes
 pub mod Struck
 pub mod Walk
+pub mod PublishLaws
 pub mod ToldLaws

@@ -1,6 +1,7 @@
 -- What begin, abandon and publish tell is what document 01 has them tell. `..-tells` adds that clause to the one on the reply.
 use Prim.Native.Nat.{ℕ}
 use mathlib.Core.Path.{_≡_, refl}
+use mathlib.Core.List.{List}
 use Rattle.layout.proofs.ChecksLaws.{answered-map}
 use Rattle.desk.specs.Told.{beginTold, abandonTold, publishTold}
 use Rattle.desk.specs.Begin.{beginRefused, begun, beginReply, beginSaid}
@@ -26,9 +27,11 @@ module _ (d : Desk) (s : ℕ) where
   pub abandon-tells : {r : AbandonReply} → r ≡ abandonReply d s → (r ≡ abandonReply d s) × (abandonTold (r .answer) ≡ abandonSaid d s)
   abandon-tells e = (e, rw e abandon-told)
 
-  pub publish-told : publishTold (publishReply d s .answer) ≡ publishSaid d s
+module _ (img : List ℕ) (d : Desk) (len s : ℕ) where
+  pub publish-told : publishTold (publishReply img d len s .answer) ≡ publishSaid img d len s
   unfolding publishReply publishSaid
-  publish-told = answered-map (λ (r : PublishReply). publishTold (r .answer)) _ (publishRefused d) (published d s) (λ k. refl) refl
+  publish-told = answered-map (λ (r : PublishReply). publishTold (r .answer)) _ (publishRefused d) (published img d s) (λ k. refl) refl
 
-  pub publish-tells : {r : PublishReply} → r ≡ publishReply d s → (r ≡ publishReply d s) × (publishTold (r .answer) ≡ publishSaid d s)
-  publish-tells e = (e, rw e publish-told)
+  pub publish-tells : {r : PublishReply} {I T : Type 0} → (r ≡ publishReply img d len s) × (I × T)
+      → (r ≡ publishReply img d len s) × (I × (T × (publishTold (r .answer) ≡ publishSaid img d len s)))
+  publish-tells (e, (i, t)) = (e, (i, (t, rw e publish-told)))

@@ -1,30 +1,40 @@
--- Publish (document 01): sealed only. End is clock + 1 and the clock becomes that. Checks 2, 4, 6.
+-- Publish (document 01, and document 02's Req 05): sealed only. End is clock + 1 and the clock becomes that. Where the new clock would pass the
+-- ceiling it is raised: two entries, else none. Checks 1, 2, 3, 4, 6.
 use Prim.Native.Nat.{ℕ, _+_}
-use Rattle.layout.specs.Checks.{unless, first, answered}
+use mathlib.Core.List.{List, []}
+use lib.ListN.{length}
+use Rattle.layout.specs.Ceiling.{passEntries}
+use Rattle.layout.specs.Checks.{unless, first, answered, roomFor}
+use Rattle.layout.specs.Entries.{Entry}
 use Rattle.desk.specs.Desk.{sessionAt, isSealed, withPhase, changed}
-use Rattle.desk.specs.Entering.{deskFault}
+use Rattle.desk.specs.Entering.{imageFault}
 use Rattle.desk.specs.declared.state.Phase.the-variants.{Published}
 use Rattle.desk.specs.declared.state.Desk.{Desk}
 use Rattle.desk.specs.declared.publish.PublishAnswer.the-variants.{Refused, End}
 use Rattle.desk.specs.declared.publish.PublishReply.{PublishReply}
 use Rattle.layout.specs.Told.{Told, refusal, endedAt}
 
-unfoldable pub publishFault : Desk → ℕ → ℕ
-publishFault d s = first (deskFault d s) (unless (isSealed (sessionAt d s .phase)) 6)
+-- `len` is the length of the trace
+unfoldable pub publishFault : List ℕ → Desk → ℕ → ℕ → ℕ
+publishFault img d len s = first (imageFault img d (roomFor len) s) (unless (isSealed (sessionAt d s .phase)) 6)
+
+unfoldable pub publishEntries : List ℕ → Desk → ℕ → ℕ → List Entry
+publishEntries img d len s = answered (publishFault img d len s) (λ k. []) (passEntries img (d .clock + 1))
 
 abbrev pub publishRefused : Desk → ℕ → PublishReply
-publishRefused d k = record { answer = Refused k; desk = d }
+publishRefused d k = record { answer = Refused k; entries = 0; desk = d }
 
-abbrev pub published : Desk → ℕ → PublishReply
-published d s =
+abbrev pub published : List ℕ → Desk → ℕ → PublishReply
+published img d s =
     record {
       answer = End (d .clock + 1);
+      entries = length (passEntries img (d .clock + 1));
       desk = changed d s (withPhase (sessionAt d s) (Published (d .clock + 1))) (d .clock + 1) (d .holders);
     }
 
-unfoldable pub publishReply : Desk → ℕ → PublishReply
-publishReply d s = answered (publishFault d s) (publishRefused d) (published d s)
+unfoldable pub publishReply : List ℕ → Desk → ℕ → ℕ → PublishReply
+publishReply img d len s = answered (publishFault img d len s) (publishRefused d) (published img d s)
 
 -- what it tells: the end
-unfoldable pub publishSaid : Desk → ℕ → Told
-publishSaid d s = answered (publishFault d s) refusal (endedAt (d .clock + 1))
+unfoldable pub publishSaid : List ℕ → Desk → ℕ → ℕ → Told
+publishSaid img d len s = answered (publishFault img d len s) refusal (endedAt (d .clock + 1))

@@ -13,8 +13,11 @@ use crate::state::Phase;
 use crate::state::RecordCopy;
 use crate::state::Session;
 
-// L + 16: the most that the clock and the number of sealed sessions come to.
-const CLOCK_MOST: u64 = 4_611_686_018_427_387_920;
+// L: from this clock on nothing is sealed, and from this ceiling on nothing is opened.
+pub const LIMIT: u64 = 4_611_686_018_427_387_904;
+
+// The most that the clock and the number of sealed sessions come to.
+const CLOCK_MOST: u64 = LIMIT + 16;
 
 fn count_ok(p: Phase, count: u64) -> bool
     ensures { λ r. ⌜ r ≡ countOk p count ⌝ }

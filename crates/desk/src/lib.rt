@@ -1,4 +1,4 @@
-// The volatile transaction table, its coherence, the first checks of the calls that take it, and the calls that take it without an image.
+// The volatile transaction table, its coherence, the first checks of the calls that take it, and begin, publish and abandon.
 mod abandon;
 mod begin;
 mod coherence;
@@ -11,6 +11,7 @@ pub use abandon::AbandonAnswer;
 pub use abandon::AbandonReply;
 pub use begin::BeginAnswer;
 pub use begin::BeginReply;
+pub use coherence::LIMIT;
 pub use coherence::coherent;
 pub use entering::entry_fault;
 pub use entering::record_fault;

@@ -96,6 +96,7 @@ module _ (N M : ℕ) (img : List ℕ) (d : Desk) (h : History) (H : Holds N M im
               log-same = λ u lu n. ap (λ b. denoted (logOf b)) (bodies u n);
               home-same = homes;
             });
+        under = omega (arith, H .under, below-home 3 (omega arith));
       }
         where
           logs : denoted (logOf (body N img′ (placeOf s q))) ≡ writes cs
@@ -113,8 +114,10 @@ module _ (N M : ℕ) (img : List ℕ) (d : Desk) (h : History) (H : Holds N M im
       kept = rw is (kept-by (finished-words .turn));
       later = record { clock = omega arith; views = λ σ r k. unseen σ r (h .sealed) s (h .draft s) (h .opening r) };
       marks = λ p. rw is (mark p (ℕ-discrete p (placeOf s q)));
-      low = λ j lj. below-home finished finished-words j lj;
-      low-cut = λ k sel j lj. below-home _ (cut-words _ (slotAt N (placeOf s q)) (d .clock) img fit k sel) j lj;
+      low = λ j lj. below-home finished finished-words j (omega arith);
+      top = below-home finished finished-words 3 (omega arith);
+      low-cut = λ k sel j lj. below-home _ (cut-words _ (slotAt N (placeOf s q)) (d .clock) img fit k sel) j (omega arith);
+      top-cut = λ k sel. omega (arith, below-home _ (cut-words _ (slotAt N (placeOf s q)) (d .clock) img fit k sel) 3 (omega arith));
       broken = λ k sel. cut-by k sel (cut-words _ (slotAt N (placeOf s q)) (d .clock) img fit k sel);
     }
       where
@@ -167,6 +170,6 @@ module _ (N M : ℕ) (img : List ℕ) (d : Desk) (h : History) (H : Holds N M im
   finish-at l (sealed n q cs) e = refusing N M img d h H (finish len s) 6 refl
   finish-at l (published f q cs) e = refusing N M img d h H (finish len s) 6 refl
 
-  pub finish-done : Done N M img d h (finish len s) (dueOf N M (view N img .number) d h (finish len s))
+  pub finish-done : Done N M img d h (finish len s) (dueOf N M (view N img .number) (getD img 3 0) d h (finish len s))
   finish-done =
       past-room N M img d h H (finish len s) len _ (past-session N M img d h H (finish len s) s _ (λ l. finish-at l (d .session s) refl))

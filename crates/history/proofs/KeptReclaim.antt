@@ -134,12 +134,14 @@ module _ (N M : ℕ) (img : List ℕ) (d : Desk) (h : History) (H : Holds N M im
       where
         go : (b : Bool) → (T (not b) → view N img .number (placeOf s q) ≤ least) → Done N M img d h (reclaim len s)
             (cond b (say (held least)) (record { answer = cleared (view N img .number (placeOf s q)); entries = clearStores N (placeOf s q) }))
-        go true f = same N M img d h H (reclaim len s) (held least) (λ _. refl) refl refl (λ _. refl)
+        go true f = same N M img d h H (reclaim len s) (held least) refl (λ _. refl) refl refl (λ _. refl)
         go false f = record {
           kept = all;
           later = record { clock = omega arith; views = λ σ r k. refl };
           low = λ j lj. made-one (slotAt N (placeOf s q)) 0 img .others j (λ z. omega arith);
+          top = made-one (slotAt N (placeOf s q)) 0 img .others 3 (λ z. omega arith);
           low-cut = λ k sel j lj. cut-one (slotAt N (placeOf s q)) 0 img k sel .others j (λ z. omega arith);
+          top-cut = λ k sel. omega (arith, cut-one (slotAt N (placeOf s q)) 0 img k sel .others 3 (λ z. omega arith));
           marks = λ p. mark p (ℕ-discrete p (placeOf s q)) ∙ ap (λ c. emptied s c (view N img .number) p) (sym ce);
           broken = λ k sel. some-word (cut k sel (clearStores N (placeOf s q)) img) (cut-one (slotAt N (placeOf s q)) 0 img k sel);
         }
@@ -159,6 +161,7 @@ module _ (N M : ℕ) (img : List ℕ) (d : Desk) (h : History) (H : Holds N M im
               whole = ow .long ∙ H .whole;
               sounds = λ u a. rw (clear-bodies N M img img′ (placeOf s q) ow u) (H .sounds u (a .0, was u a));
               inv = clearing N M (view N img) (view N img′) d h (placeOf s q) (H .inv) oldest away (clear-emptied N M img img′ (placeOf s q) ow z);
+              under = omega (arith, H .under, ow .others 3 (λ e. omega arith));
             }
               where
                 was : (u : ℕ) → Occupied (2 * M) (view N img′) u → getD img (slotAt N u) 0 ≢ 0
@@ -194,10 +197,10 @@ module _ (N M : ℕ) (img : List ℕ) (d : Desk) (h : History) (H : Holds N M im
 
   reclaim-at : s < M → (o : Option ℕ) → candidate (view N img .number) s (d .session s) ≡ o → Cand (d .session s) o
       → Done N M img d h (reclaim len s) (reclaims N M (view N img .number) s o)
-  reclaim-at l none ce c = same N M img d h H (reclaim len s) nothing (λ _. refl) refl refl (λ _. refl)
+  reclaim-at l none ce c = same N M img d h H (reclaim len s) nothing refl (λ _. refl) refl refl (λ _. refl)
   reclaim-at l (some q) ce c = clears-done l q (c .0) (c .1) (c .2) ce
 
-  pub reclaim-done : Done N M img d h (reclaim len s) (dueOf N M (view N img .number) d h (reclaim len s))
+  pub reclaim-done : Done N M img d h (reclaim len s) (dueOf N M (view N img .number) (getD img 3 0) d h (reclaim len s))
   reclaim-done =
       past-room N M img d h H (reclaim len s) len _ (past-session N M img d h H (reclaim len s) s _
       (λ l. reclaim-at l (candidate (view N img .number) s (d .session s)) refl (candidate? (d .session s))))

@@ -7,7 +7,7 @@ use mathlib.Core.List.{List}
 use native.Mathlib.Decide.{ℕ-discrete}
 use native.Mathlib.Nat.{le-refl}
 use native.Mathlib.Omega.{arith}
-use lib.ListN.{length}
+use lib.ListN.{length, getD}
 use lib.Dec.{T, T-not}
 use borrow.Author.Tests.{lt-ltb, ltb-true}
 use Rattle.layout.specs.Below.{anyBelow}
@@ -82,7 +82,7 @@ module _ (N M : ℕ) (img : List ℕ) (d : Desk) (h : History) (H : Holds N M im
       late (suc b) l σ u lu st = late-next b (omega arith) (late b (omega arith)) σ u lu st
 
     settle-waits : (o : Option ℕ) → Lowest (λ t. beganFirst M d e (d .session t)) M o → Done N M img d h (settle len s) (waits cs o)
-    settle-waits (some t) g = same N M img d h H (settle len s) (wait t) (λ _. refl) refl refl (λ _. refl)
+    settle-waits (some t) g = same N M img d h H (settle len s) (wait t) refl (λ _. refl) refl refl (λ _. refl)
     settle-waits none g = record {
       kept = record {
         whole = whole-part .good .whole;
@@ -91,10 +91,13 @@ module _ (N M : ℕ) (img : List ℕ) (d : Desk) (h : History) (H : Holds N M im
             (settle-homing N M img cs (made (settleStores cs) img) (logged .lawful .below) (made-some (writes cs) img))
             (made-all (writes cs) img (writes-functional cs (logged .lawful .distinct)) homes-in)
             (late g e (le-refl e));
+        under = omega (arith, H .under, settle-low N M img cs (made (settleStores cs) img) (logged .lawful .below) (made-some (writes cs) img) 3 (omega arith));
       };
       later = record { clock = omega arith; views = λ σ r k. refl };
-      low = λ j lj. settle-low N M img cs (made (settleStores cs) img) (logged .lawful .below) (made-some (writes cs) img) j lj;
-      low-cut = λ k sel j lj. settle-low N M img cs (cut k sel (settleStores cs) img) (logged .lawful .below) (cut-some (writes cs) img k sel) j lj;
+      low = λ j lj. settle-low N M img cs (made (settleStores cs) img) (logged .lawful .below) (made-some (writes cs) img) j (omega arith);
+      top = settle-low N M img cs (made (settleStores cs) img) (logged .lawful .below) (made-some (writes cs) img) 3 (omega arith);
+      low-cut = λ k sel j lj. settle-low N M img cs (cut k sel (settleStores cs) img) (logged .lawful .below) (cut-some (writes cs) img k sel) j (omega arith);
+      top-cut = λ k sel. omega (arith, settle-low N M img cs (cut k sel (settleStores cs) img) (logged .lawful .below) (cut-some (writes cs) img k sel) 3 (omega arith));
       marks = λ p. settle-beyond N M img cs (made (settleStores cs) img) (logged .lawful .below) (made-some (writes cs) img) (slotAt N p) (omega arith);
       broken = λ k sel. part (cut k sel (settleStores cs) img) (cut-some (writes cs) img k sel);
     }
@@ -108,6 +111,6 @@ module _ (N M : ℕ) (img : List ℕ) (d : Desk) (h : History) (H : Holds N M im
   settle-at l (sealed n q cs) e = refusing N M img d h H (settle len s) 6 refl
   settle-at l (published f q cs) e = settle-waits l f q cs e (awaited M d f) (firstOf? (λ t. beganFirst M d f (d .session t)) M)
 
-  pub settle-done : Done N M img d h (settle len s) (dueOf N M (view N img .number) d h (settle len s))
+  pub settle-done : Done N M img d h (settle len s) (dueOf N M (view N img .number) (getD img 3 0) d h (settle len s))
   settle-done =
       past-room N M img d h H (settle len s) len _ (past-session N M img d h H (settle len s) s _ (λ l. settle-at l (d .session s) refl))

@@ -6,7 +6,7 @@ use mathlib.Core.Bool.{Bool, true, false, cond, not}
 use mathlib.Core.Option.{Option, none, some}
 use mathlib.Core.List.{List, [], _∷_}
 use native.Mathlib.Omega.{arith}
-use lib.ListN.{length}
+use lib.ListN.{length, getD}
 use lib.Dec.{T, eqb, leb, eqb→eq, nleb→lt}
 use Rattle.layout.specs.Image.{placeOf}
 use Rattle.layout.specs.Told.{refused, ok}
@@ -58,7 +58,7 @@ module _ (N M : ℕ) (img : List ℕ) (d : Desk) (h : History) (H : Holds N M im
     -- the copy is kept, in slot q′
     keep : (q′ : ℕ) → slotNow s (view N img .number) q cs ≡ q′ → q′ < 2 → view N img .number (placeOf s q′) ≡ 0 → length (put r ws cs) ≤ 4 → ((u : ℕ) → u < M → u ≢ s → Fresh r (copies (d .session u)))
         → Done N M img d h (write s r ws) (say ok)
-    keep q′ sl lq z few fr = said N M img d h H (write s r ws) ok _ (λ _. refl) (record { clock = omega arith; views = λ σ u k. refl })
+    keep q′ sl lq z few fr = said N M img d h H (write s r ws) ok _ refl refl (λ _. refl) (record { clock = omega arith; views = λ σ u k. refl })
         (quiet N M (view N img) d h (drafted s (put r ws (h .draft s)) h) s (active b q′ (put r ws cs)) (H .inv) l (rw is tt) tt
         (record { opening = refl; sealed = refl; drafts = λ u n. upd-other s _ (h .draft) u n; starts = λ u n. refl })
         (record {
@@ -107,7 +107,7 @@ module _ (N M : ℕ) (img : List ℕ) (d : Desk) (h : History) (H : Holds N M im
     own-done none f = go (holder M d r) (firstOf? (λ t. found (find r (copies (d .session t)))) M)
       where
         go : (o : Option ℕ) → Lowest (λ t. found (find r (copies (d .session t)))) M o → Done N M img d h (write s r ws) (writesHeld (view N img .number) s cs o)
-        go (some t) g = said N M img d h H (write s r ws) (refused 7 t) _ (λ _. refl) (record { clock = omega arith; views = λ σ u k. refl }) (idles N M img d h H s b q cs _ is l (emptied N M img d h H s)) refl (λ _. refl)
+        go (some t) g = said N M img d h H (write s r ws) (refused 7 t) _ refl refl (λ _. refl) (record { clock = omega arith; views = λ σ u k. refl }) (idles N M img d h H s b q cs _ is l (emptied N M img d h H s)) refl (λ _. refl)
         go none g = adds-done (λ u lu. no-holder r (copies (d .session u)) (g u lu)) cs refl
 
   write-at : s < M → r < N → (x : Session) → d .session s ≡ x → Done N M img d h (write s r ws) (wrote M (view N img .number) d s r x)
@@ -116,5 +116,5 @@ module _ (N M : ℕ) (img : List ℕ) (d : Desk) (h : History) (H : Holds N M im
   write-at l lr (sealed n q cs) e = refusing N M img d h H (write s r ws) 6 refl
   write-at l lr (published f q cs) e = refusing N M img d h H (write s r ws) 6 refl
 
-  pub write-done : Done N M img d h (write s r ws) (dueOf N M (view N img .number) d h (write s r ws))
+  pub write-done : Done N M img d h (write s r ws) (dueOf N M (view N img .number) (getD img 3 0) d h (write s r ws))
   write-done = past-session N M img d h H (write s r ws) s _ (λ l. past-record N M img d h H (write s r ws) r _ (λ lr. write-at l lr (d .session s) refl))

@@ -18,6 +18,7 @@ pub mod MovePublish
 pub mod MoveSettle
 pub mod MoveClear
 pub mod Kept
+pub mod MoveRaise
 pub mod KeptBegin
 pub mod KeptAbandon
 pub mod KeptRead
@@ -29,3 +30,4 @@ pub mod KeptReclaim
 pub mod KeptListening
 pub mod ReadDue
 pub mod Calls
+pub mod Numbers

@@ -1,5 +1,5 @@
 -- The session calls, with whatever a caller may pass: any session, record, words and number, and any length of the trace, which finish,
--- settle and reclaim take first.
+-- publish, settle and reclaim take first.
 use Prim.Native.Nat.{ℕ}
 use mathlib.Core.List.{List}
 
@@ -16,7 +16,7 @@ pub data Call : Type 0 where
   write : ℕ → ℕ → List ℕ → Call
   abandon : ℕ → Call
   finish : ℕ → ℕ → Call
-  publish : ℕ → Call
+  publish : ℕ → ℕ → Call
   settle : ℕ → ℕ → Call
   reclaim : ℕ → ℕ → Call
   listen : Listening → Call

@@ -1,6 +1,6 @@
 -- What is due by document 01's rules: from the ledger alone, what a call tells and the entries that it stores, in a store of N records and
 -- M sessions.
-use Prim.Native.Nat.{ℕ, zero, suc, _*_}
+use Prim.Native.Nat.{ℕ, zero, suc, _+_, _*_}
 use mathlib.Core.Bool.{Bool, true, false, cond, _&&_}
 use mathlib.Core.Option.{Option, none, some}
 use mathlib.Core.List.{List, [], _∷_, _++_}
@@ -111,12 +111,20 @@ finishes N clock s (active b q cs) = sealsCopies N clock (placeOf s q) cs
 finishes N clock s (sealed n q cs) = refuse 6
 finishes N clock s (published e q cs) = refuse 6
 
+-- header word 3 is stored as 1,024 above the clock c, and a fence follows (document 02, Req 05)
+abbrev pub raiseStores : ℕ → List Entry
+raiseStores c = store 3 (c + 1024) ∷ fence ∷ []
+
+-- only where the clock c passes the ceiling w
+abbrev pub passStores : ℕ → ℕ → List Entry
+passStores c w = cond (leb c w) [] (raiseStores c)
+
 -- end is clock + 1
-abbrev pub publishes : ℕ → Session → Due
-publishes clock idle = refuse 6
-publishes clock (active b q cs) = refuse 6
-publishes clock (sealed n q cs) = say (endedAt (suc clock))
-publishes clock (published e q cs) = refuse 6
+abbrev pub publishes : ℕ → ℕ → Session → Due
+publishes clock w idle = refuse 6
+publishes clock w (active b q cs) = refuse 6
+publishes clock w (sealed n q cs) = record { answer = endedAt (suc clock); entries = passStores (suc clock) w }
+publishes clock w (published e q cs) = refuse 6
 
 -- wait with the active session that has the smallest start below the end, among equal starts the lowest; otherwise the copies go home and a
 -- fence follows
@@ -212,17 +220,17 @@ dueListening N M d h (Find s k) = ifShelf k (ifSession M s (searches N h k (d .s
 
 -- ---- all calls
 
--- of the slots' numbers, the desk and the history
-abbrev pub dueOf : ℕ → ℕ → (ℕ → ℕ) → Desk → History → Call → Due
-dueOf N M f d h (begin s) = ifSession M s (begins (d .clock) (d .session s))
-dueOf N M f d h (read s r) = ifSession M s (ifRecord N r (reads M d h r (d .session s)))
-dueOf N M f d h (write s r ws) = ifSession M s (ifRecord N r (wrote M f d s r (d .session s)))
-dueOf N M f d h (abandon s) = ifSession M s (abandons (d .session s))
-dueOf N M f d h (finish len s) = ifRoom len (ifSession M s (finishes N (d .clock) s (d .session s)))
-dueOf N M f d h (publish s) = ifSession M s (publishes (d .clock) (d .session s))
-dueOf N M f d h (settle len s) = ifRoom len (ifSession M s (settles M d (d .session s)))
-dueOf N M f d h (reclaim len s) = ifRoom len (ifSession M s (reclaims N M f s (candidate f s (d .session s))))
-dueOf N M f d h (listen c) = dueListening N M d h c
+-- of the slots' numbers, the ceiling, the desk and the history
+abbrev pub dueOf : ℕ → ℕ → (ℕ → ℕ) → ℕ → Desk → History → Call → Due
+dueOf N M f w d h (begin s) = ifSession M s (begins (d .clock) (d .session s))
+dueOf N M f w d h (read s r) = ifSession M s (ifRecord N r (reads M d h r (d .session s)))
+dueOf N M f w d h (write s r ws) = ifSession M s (ifRecord N r (wrote M f d s r (d .session s)))
+dueOf N M f w d h (abandon s) = ifSession M s (abandons (d .session s))
+dueOf N M f w d h (finish len s) = ifRoom len (ifSession M s (finishes N (d .clock) s (d .session s)))
+dueOf N M f w d h (publish len s) = ifRoom len (ifSession M s (publishes (d .clock) w (d .session s)))
+dueOf N M f w d h (settle len s) = ifRoom len (ifSession M s (settles M d (d .session s)))
+dueOf N M f w d h (reclaim len s) = ifRoom len (ifSession M s (reclaims N M f s (candidate f s (d .session s))))
+dueOf N M f w d h (listen c) = dueListening N M d h c
 
 unfoldable pub due : ℕ → ℕ → Ledger → Call → Due
-due N M L c = dueOf N M (L .number) (L .desk) (L .history) c
+due N M L c = dueOf N M (L .number) (L .ceiling) (L .desk) (L .history) c

@@ -1,5 +1,5 @@
 -- The ledger: what a list of calls with what they tell says, with no image.
-use Prim.Native.Nat.{ℕ, suc}
+use Prim.Native.Nat.{ℕ, suc, _+_}
 use mathlib.Core.Bool.{Bool, true, false, cond, not, _&&_}
 use mathlib.Core.Option.{Option, none, some}
 use mathlib.Core.List.{List, [], _∷_}
@@ -10,11 +10,12 @@ use Rattle.history.specs.Call.{Listening, Begin, Read, Finish, Find, Cal
 use Rattle.history.specs.Desk.{Copy, put, Session, idle, active, sealed, published, Desk, upd, withSession}
 use Rattle.history.specs.History.{History, feed}
 
--- the clock, which is 1 plus the number of ends given, and what each session is doing; the persist number of each slot, 0 where it is
--- empty; and the history
+-- the clock, which goes on by one with each end given, and what each session is doing; the persist number of each slot, 0 where it is
+-- empty; the ceiling (document 02, Req 05); and the history
 pub record Ledger : Type 0 where
   pub desk : Desk
   pub number : ℕ → ℕ
+  pub ceiling : ℕ
   pub history : History
 
 -- ---- the sessions
@@ -66,7 +67,7 @@ noteDesk (write s r ws) t f d =
 noteDesk (abandon s) t f d = cond (is Ok t) (withSession s idle d) d
 noteDesk (finish len s) t f d =
     cond (is Sealed t) (withSession s (sealedWith (valueOf t) (d .session s)) d) (cond (is Empty t) (withSession s idle d) d)
-noteDesk (publish s) t f d = cond (is End t) (withSession s (endedWith (valueOf t) (d .session s)) (ticked d)) d
+noteDesk (publish len s) t f d = cond (is End t) (withSession s (endedWith (valueOf t) (d .session s)) (ticked d)) d
 noteDesk (settle len s) t f d = cond (is Ok t) (withSession s idle d) d
 noteDesk (reclaim len s) t f d = d
 noteDesk (listen c) t f d = noteListening c t d
@@ -111,10 +112,20 @@ noteNumber (read s r) t f d = f
 noteNumber (write s r ws) t f d = f
 noteNumber (abandon s) t f d = f
 noteNumber (finish len s) t f d = cond (is Sealed t) (upd (placeOf s (slotOf (d .session s))) (valueOf t) f) f
-noteNumber (publish s) t f d = f
+noteNumber (publish len s) t f d = f
 noteNumber (settle len s) t f d = f
 noteNumber (reclaim len s) t f d = cond (is Cleared t) (emptied s (candidate f s (d .session s)) f) f
 noteNumber (listen c) t f d = f
+
+-- ---- the ceiling
+
+-- with the clock at c it stays if the clock does not pass it, else it is 1,024 above the clock
+abbrev pub raised : ℕ → ℕ → ℕ
+raised c w = cond (leb c w) w (c + 1024)
+
+-- after a call: an end that is given may raise it
+abbrev pub noteCeiling : Told → ℕ → ℕ
+noteCeiling t w = cond (is End t) (raised (valueOf t) w) w
 
 -- ---- the ledger after a call
 
@@ -123,5 +134,6 @@ note c t L =
     record {
       desk = noteDesk c t (L .number) (L .desk);
       number = noteNumber c t (L .number) (L .desk);
+      ceiling = noteCeiling t (L .ceiling);
       history = feed c t (L .history);
     }

@@ -8,3 +8,4 @@ pub mod Groups
 pub mod TraceLaws
 pub mod Stored
 pub mod TidyLaws
+pub mod CeilingLaws

@@ -1,5 +1,6 @@
 -- Where an image holds its parts (document 01, "The image"): a header of 4 words, N home records of 4 words, and for each session two log
--- slots of 22 words. N and M are words 1 and 2. Everything is read by `word`, which gives 0 past the end.
+-- slots of 22 words. N and M are words 1 and 2, and word 3 is the ceiling (document 02, Req 05). Everything is read by `word`, which gives 0
+-- past the end.
 use Prim.Native.Nat.{ℕ, _+_, _*_}
 use mathlib.Core.Bool.{Bool, _&&_, not}
 use mathlib.Core.List.{List, [], _∷_}
@@ -17,6 +18,10 @@ recordsOf img = word img 1
 abbrev pub sessionsOf : List ℕ → ℕ
 sessionsOf img = word img 2
 
+-- the ceiling: no number above it has been given
+abbrev pub ceilingOf : List ℕ → ℕ
+ceilingOf img = word img 3
+
 -- N is 1 to 256 and M is 1 to 16
 abbrev pub inRange : ℕ → ℕ → Bool
 inRange n m = leb 1 n && leb n 256 && leb 1 m && leb m 16
@@ -25,7 +30,7 @@ inRange n m = leb 1 n && leb n 256 && leb 1 m && leb m 16
 abbrev pub sizeOf : ℕ → ℕ → ℕ
 sizeOf n m = 4 + 4 * n + 44 * m
 
--- what check 1 asks: word 0 is 1, N and M are in range, and the length is exact; word 3 is not examined
+-- what check 1 asks: word 0 is 1, N and M are in range, and the length is exact; any ceiling will do
 unfoldable pub shapedB : List ℕ → Bool
 shapedB img =
     eqb (word img 0) 1 && inRange (recordsOf img) (sessionsOf img) && eqb (length img) (sizeOf (recordsOf img) (sessionsOf img))

@@ -4,6 +4,7 @@ pub mod Checks
 pub mod Image
 pub mod Entries
 pub mod Crash
+pub mod Ceiling
 pub mod Homes
 pub mod Trace
 pub mod Tidy

@@ -23,9 +23,10 @@ pub fn listener_fault(image: &[u64], desk: Desk, room: bool, session: u64) -> u6
     ensures { λ r. ⌜ r ≡ listenerFault (now (image .entry)) desk room session ⌝ }
 {
     let sound = coherent(desk);
+    let clock = desk.clock;
     let n = desk.n;
     let m = desk.m;
-    let fault = entry_fault(image, sound, n, m, room, session);
+    let fault = entry_fault(image, sound, clock, n, m, room, session);
     if fault != 0 {
         return fault;
     }

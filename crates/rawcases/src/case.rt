@@ -109,8 +109,9 @@ pub fn fields(mut words: [u64; 2454]) -> [u64; 11] {
     let got = r.words;
     let left = r.desk;
     let words_alone = (call == 11) | (call == 12) | (call == 15);
-    let image = (call != 1) & (call != 5) & (call != 8) & (call != 16) & !words_alone;
-    let entries = (call == 4) | (call == 6) | (call == 7) | (call == 10) | (call == 18);
+    let image = (call != 1) & (call != 8) & (call != 16) & !words_alone;
+    let storing = (call == 4) | (call == 5) | (call == 6) | (call == 7);
+    let entries = storing | (call == 9) | (call == 10) | (call == 18);
     let desk = (call != 0) & (call != 10) & !words_alone;
     let a = shown(image, image_digest(words));
     let b = shown(entries, trace_digest(trace, words[9]));

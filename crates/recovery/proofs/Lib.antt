@@ -1,3 +1,4 @@
+pub mod OpenLaws
 pub mod Lists
 pub mod RecoverLaws
 pub mod ToldLaws

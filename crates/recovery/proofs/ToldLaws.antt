@@ -16,19 +16,19 @@ opens r = openTold (r .answer)
 abbrev recovers : RecoverReply → Told
 recovers r = recoverTold (r .answer)
 
-module _ (img : List ℕ) where
-  pub open-told : opens (openReply img) ≡ openSaid img
+module _ (img : List ℕ) (len : ℕ) where
+  pub open-told : opens (openReply img len) ≡ openSaid img len
   unfolding openReply openSaid
   open-told = answered-map opens _ openRefused (opened img) (λ k. refl) refl
 
-  pub open-tells : {r : OpenReply} → r ≡ openReply img → (r ≡ openReply img) × (opens r ≡ openSaid img)
-  open-tells e = (e, rw e open-told)
+  pub open-tells : {r : OpenReply} {I T : Type 0} → (r ≡ openReply img len) × (I × T)
+      → (r ≡ openReply img len) × (I × (T × (opens r ≡ openSaid img len)))
+  open-tells (e, (i, t)) = (e, (i, (t, rw e open-told)))
 
-  module _ (len : ℕ) where
-    pub recover-told : recovers (recoverReply img len) ≡ recoverSaid img len
-    unfolding recoverReply recoverRefused recoverSaid
-    recover-told = answered-map recovers _ (recoverRefused img) (recoverDone img) (λ k. simp (cond-map recovers)) (simp (cond-map recovers))
+  pub recover-told : recovers (recoverReply img len) ≡ recoverSaid img len
+  unfolding recoverReply recoverRefused recoverSaid
+  recover-told = answered-map recovers _ (recoverRefused img) (recoverDone img) (λ k. simp (cond-map recovers)) (simp (cond-map recovers))
 
-    pub recover-tells : {r : RecoverReply} {I T : Type 0} → (r ≡ recoverReply img len) × (I × T)
-        → (r ≡ recoverReply img len) × (I × (T × (recovers r ≡ recoverSaid img len)))
-    recover-tells (e, (i, t)) = (e, (i, (t, rw e recover-told)))
+  pub recover-tells : {r : RecoverReply} {I T : Type 0} → (r ≡ recoverReply img len) × (I × T)
+      → (r ≡ recoverReply img len) × (I × (T × (recovers r ≡ recoverSaid img len)))
+  recover-tells (e, (i, t)) = (e, (i, (t, rw e recover-told)))

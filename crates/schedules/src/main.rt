@@ -62,7 +62,7 @@ fn walk_all(
     trace: &mut [u64],
     output: &mut [u8],
 )
-    requires { ⌜ (256 ≤ length (now output)) × (length (now image) ≤ length (now before)) ⌝ }
+    requires { ⌜ (256 ≤ length (now output)) × (length (now image) ≤ length (now before)) × (48 ≤ length (now trace)) ⌝ }
 {
     let mut left: u64 = 18446744073709551615;
     while 0 < left {

@@ -40,9 +40,10 @@ pub fn read(image: &[u64], desk: Desk, session: u64, rec: u64) -> ReadReply
     ensures told { λ r. ⌜ readTold (r .answer) (r .words) ≡ readSaid (now (image .entry)) desk session rec ⌝ }
 {
     let sound = coherent(desk);
+    let clock = desk.clock;
     let n = desk.n;
     let m = desk.m;
-    let fault = record_fault(image, sound, n, m, session, rec);
+    let fault = record_fault(image, sound, clock, n, m, session, rec);
     if fault != 0 {
         return gives(desk, ReadAnswer::Refused(fault), [0; 4]);
     }

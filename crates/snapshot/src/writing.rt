@@ -101,9 +101,10 @@ pub fn write(image: &[u64], mut desk: Desk, session: u64, rec: u64, words: [u64;
     ensures told { λ r. ⌜ writeTold (r .answer) ≡ writeSaid (now (image .entry)) desk session rec ⌝ }
 {
     let sound = coherent(desk);
+    let clock = desk.clock;
     let n = desk.n;
     let m = desk.m;
-    let fault = record_fault(image, sound, n, m, session, rec);
+    let fault = record_fault(image, sound, clock, n, m, session, rec);
     if fault != 0 {
         return answers(desk, WriteAnswer::Refused(fault));
     }

@@ -7,7 +7,7 @@ use Rattle.layout.specs.Told.{Told, refused, result}
 use Rattle.layout.specs.Told.{Ok as TellsOk, Start as TellsStart, Own as TellsOwn, Copy as TellsCopy, Home as TellsHome, Empty as TellsEmpty, Sealed as TellsSealed}
 use Rattle.layout.specs.Told.{End as TellsEnd, Wait as TellsWait, None as TellsNone, Held as TellsHeld, Cleared as TellsCleared, Clean as TellsClean, Replayed as TellsReplayed, Found as TellsFound}
 use Rattle.desk.specs.Begin.{beginReply}
-use Rattle.desk.specs.Publish.{publishReply}
+use Rattle.desk.specs.Publish.{publishEntries, publishReply}
 use Rattle.desk.specs.Abandon.{abandonReply}
 use Rattle.desk.specs.Told.{beginTold, abandonTold, publishTold}
 use Rattle.desk.specs.declared.state.Desk.{Desk}
@@ -69,8 +69,10 @@ abbrev pub finishApplied : List ℕ → Desk → ℕ → ℕ → Applied
 finishApplied img d len s =
     givesOf (outcomeOf (finishTold (finishReply img d len s .answer))) (finishReply img d len s .entries) (finishReply img d len s .desk)
 
-abbrev pub publishApplied : Desk → ℕ → Applied
-publishApplied d s = givesOf (outcomeOf (publishTold (publishReply d s .answer))) 0 (publishReply d s .desk)
+abbrev pub publishApplied : List ℕ → Desk → ℕ → ℕ → Applied
+publishApplied img d len s =
+    givesOf (outcomeOf (publishTold (publishReply img d len s .answer)))
+    (publishReply img d len s .entries) (publishReply img d len s .desk)
 
 abbrev pub settleApplied : List ℕ → Desk → ℕ → ℕ → Applied
 settleApplied img d len s =
@@ -91,20 +93,20 @@ appliedOf img d len (Begin s) ws = beginApplied d s
 appliedOf img d len (Read s r) ws = readApplied img d s r
 appliedOf img d len (Write s r) ws = writeApplied img d s r ws
 appliedOf img d len (Finish s) ws = finishApplied img d len s
-appliedOf img d len (Publish s) ws = publishApplied d s
+appliedOf img d len (Publish s) ws = publishApplied img d len s
 appliedOf img d len (Settle s) ws = settleApplied img d len s
 appliedOf img d len (Reclaim s) ws = reclaimApplied img d len s
 appliedOf img d len (Abandon s) ws = abandonApplied d s
 appliedOf img d len (Cut k) ws = givesOf Noted 0 d
 
--- the entries that a step lists: only finish, settle and reclaim store
+-- the entries that a step lists: only finish, publish, settle and reclaim store
 abbrev pub appliedEntries : List ℕ → Desk → ℕ → Step → List Entry
 appliedEntries img d len (Lay n m) = []
 appliedEntries img d len (Begin s) = []
 appliedEntries img d len (Read s r) = []
 appliedEntries img d len (Write s r) = []
 appliedEntries img d len (Finish s) = finishEntries img d len s
-appliedEntries img d len (Publish s) = []
+appliedEntries img d len (Publish s) = publishEntries img d len s
 appliedEntries img d len (Settle s) = settleEntries img d len s
 appliedEntries img d len (Reclaim s) = reclaimEntries img d len s
 appliedEntries img d len (Abandon s) = []

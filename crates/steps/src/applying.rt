@@ -4,6 +4,7 @@ ghost use Prim.Native.Nat.{ℕ};
 ghost use mathlib.Core.List.{List};
 ghost use lib.ListN.{length};
 ghost use Rattle.layout.specs.Entries.{made, listed};
+ghost use Rattle.desk.specs.Publish.{publishEntries};
 ghost use Rattle.commit.specs.Finish.{finishEntries};
 ghost use Rattle.commit.specs.Settle.{settleEntries};
 ghost use Rattle.commit.specs.Reclaim.{reclaimEntries};
@@ -134,13 +135,17 @@ fn apply_begin(desk: Desk, session: u64) -> Applied
     gives(begin_outcome(a), 0, d)
 }
 
-fn apply_publish(desk: Desk, session: u64) -> Applied
-    ensures { λ r. ⌜ r ≡ publishApplied desk session ⌝ }
+fn apply_publish(image: &mut [u64], desk: Desk, trace: &mut [u64], session: u64) -> Applied
+    ensures reply { λ r. ⌜ r ≡ publishApplied (now (image .entry)) desk (length (now (trace .entry))) session ⌝ }
+    ensures image { λ r. ⌜ now (image .exit)
+        ≡ made (publishEntries (now (image .entry)) desk (length (now (trace .entry))) session) (now (image .entry)) ⌝ }
+    ensures trace { λ r. ⌜ now (trace .exit)
+        ≡ listed (publishEntries (now (image .entry)) desk (length (now (trace .entry))) session) (now (trace .entry)) ⌝ }
 {
-    let r = desk.publish(session);
+    let r = desk.publish(image, trace, session);
     let a = r.answer;
     let d = r.desk;
-    gives(publish_outcome(a), 0, d)
+    gives(publish_outcome(a), r.entries, d)
 }
 
 fn apply_abandon(desk: Desk, session: u64) -> Applied
@@ -235,7 +240,7 @@ pub fn apply(
         Step::Read(s, rec) => apply_read(image, desk, s, rec),
         Step::Write(s, rec) => apply_write(image, desk, s, rec, words),
         Step::Finish(s) => apply_finish(image, desk, trace, s),
-        Step::Publish(s) => apply_publish(desk, s),
+        Step::Publish(s) => apply_publish(image, desk, trace, s),
         Step::Settle(s) => apply_settle(image, desk, trace, s),
         Step::Reclaim(s) => apply_reclaim(image, desk, trace, s),
         Step::Abandon(s) => apply_abandon(desk, s),

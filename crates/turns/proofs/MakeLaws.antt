@@ -22,7 +22,7 @@ use Rattle.codec.specs.declared.step.Step.the-variants.{Lay, Begin, Read, Write
 use Rattle.steps.proofs.ApplyLaws.{applied-counted}
 use Rattle.steps.proofs.CutLaws.{overlaid-same, cut-made}
 use Rattle.turns.specs.declared.state.State.{State}
-use Rattle.turns.specs.Make.{imageSize, laying, memoryOf, storesB, isCutB, shownOf, notedOf, PutsLine, toldOf}
+use Rattle.turns.specs.Make.{imageSize, laying, memoryOf, storesB, CutWaits, isCutB, shownOf, notedOf, PutsLine, toldOf}
 use Rattle.turns.specs.State.{putOf, lostOf}
 
 length-made : (es : List Entry) (img : List ℕ) → length (made es img) ≡ length img
@@ -78,6 +78,19 @@ other-words img d len (Cut k) ws ws′ e = refl
 pub cut-words : (s : State) (img : List ℕ) (d : Desk) (len : ℕ) (step : Step) (ws ws′ : List ℕ) {a : Applied} → isCutB s step ≡ true
     → a ≡ appliedOf img d len step ws → a ≡ appliedOf img d len step ws′
 cut-words s img d len step ws ws′ e q = q ∙ other-words img d len step ws ws′ (second (s .cutting) (storesB step) e)
+
+-- a cut waits for every step that stores
+pub cut-waits : CutWaits
+cut-waits img d len (Lay n m) e = refl
+cut-waits img d len (Begin s) e = refl
+cut-waits img d len (Read s r) e = refl
+cut-waits img d len (Write s r) e = refl
+cut-waits img d len (Finish s) e = cc
+cut-waits img d len (Publish s) e = cc
+cut-waits img d len (Settle s) e = cc
+cut-waits img d len (Reclaim s) e = cc
+cut-waits img d len (Abandon s) e = refl
+cut-waits img d len (Cut k) e = refl
 
 -- the answer of lay on the part of the memory that is laid
 pub laid-by : (memory : List ℕ) (n m : ℕ) {size : ℕ} {a b : LayAnswer} → size ≡ imageSize (length memory) n m

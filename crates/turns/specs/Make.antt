@@ -1,7 +1,7 @@
 -- A step made on the store, and the lines that it prints (document 01, "The program").
 use Prim.Native.Nat.{ℕ}
 use mathlib.Core.Bool.{Bool, true, false, not, _&&_, cond}
-use mathlib.Core.List.{List, _++_}
+use mathlib.Core.List.{List, [], _++_}
 use mathlib.Core.Path.{_≡_}
 use lib.ListN.{length, take, drop}
 use lib.Dec.{leb, ltb, eqb}
@@ -12,6 +12,8 @@ use Rattle.layout.specs.declared.laying.LayAnswer.{LayAnswer}
 use Rattle.layout.specs.declared.laying.LayAnswer.the-variants.{Refused as LayRefused, Laid}
 use Rattle.recovery.specs.declared.recovering.RecoverAnswer.{RecoverAnswer}
 use Rattle.recovery.specs.declared.recovering.RecoverAnswer.the-variants.{Refused as RecoverRefused, Unsound, Clean, Replayed}
+use Rattle.desk.specs.declared.state.Desk.{Desk}
+use Rattle.steps.specs.Apply.{appliedEntries}
 use Rattle.steps.specs.Cut.{overlaid}
 use Rattle.lines.specs.Put.{Put}
 use Rattle.lines.specs.Result.{replayedLine, openLine}
@@ -26,18 +28,22 @@ use Rattle.turns.specs.declared.state.State.{State}
 abbrev pub imageSize : ℕ → ℕ → ℕ → ℕ
 imageSize memory n m = cond (ltb 256 n) 0 (cond (ltb 16 m) 0 (cond (leb (sizeOf n m) memory) (sizeOf n m) 0))
 
--- the kinds that store, and that a cut waits for: 4, 6 and 7
+-- the kinds that store, and that a cut waits for: 4, 5, 6 and 7
 abbrev pub storesB : Step → Bool
 storesB (Lay n m) = false
 storesB (Begin s) = false
 storesB (Read s r) = false
 storesB (Write s r) = false
 storesB (Finish s) = true
-storesB (Publish s) = false
+storesB (Publish s) = true
 storesB (Settle s) = true
 storesB (Reclaim s) = true
 storesB (Abandon s) = false
 storesB (Cut k) = false
+
+-- no other kind has entries
+abbrev pub CutWaits : Type 0
+CutWaits = (img : List ℕ) (d : Desk) (len : ℕ) (step : Step) → storesB step ≡ false → appliedEntries img d len step ≡ []
 
 -- the next step of such a kind after a step 9 is cut
 abbrev pub isCutB : State → Step → Bool

@@ -90,7 +90,7 @@ fn stores(step: Step) -> bool
         Step::Read(_, _) => false,
         Step::Write(_, _) => false,
         Step::Finish(_) => true,
-        Step::Publish(_) => false,
+        Step::Publish(_) => true,
         Step::Settle(_) => true,
         Step::Reclaim(_) => true,
         Step::Abandon(_) => false,

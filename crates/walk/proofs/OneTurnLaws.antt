@@ -9,11 +9,12 @@ use mathlib.Core.List.{List, [], _∷_}
 use mathlib.Core.Path.{_≡_, refl, sym, _∙_}
 use types.Run.{OneOf, miss}
 use denote.Enum.Declared.{tagOf}
+use Rattle.layout.specs.Entries.{made}
 use Rattle.desk.specs.declared.state.Desk.{Desk}
-use Rattle.recovery.specs.Open.{openReply}
+use Rattle.recovery.specs.Open.{openEntries, openReply}
 use Rattle.codec.specs.declared.step.Step.{Step}
 use Rattle.turns.specs.State.{writtenOf, openedOf}
-use Rattle.walk.specs.Walk.{Heard, Work, imageOf, inState, aside, called, workAfter, deskTurned, Fed, OtherTurn, Scene, fullB, nextOf, OneTurn, Walked, mostTurns, WholeWalk}
+use Rattle.walk.specs.Walk.{Heard, Work, imageOf, inState, withImage, aside, called, workAfter, deskTurned, Fed, OtherTurn, Scene, fullB, nextOf, OneTurn, Walked, mostTurns, WholeWalk}
 use Rattle.turns.specs.declared.state.State.{State}
 use Rattle.walk.specs.declared.turn.Turn.{Turn}
 use Rattle.walk.specs.declared.turn.Turn.the-variants.{Open, Recover, Fill, Call, Lay, Bad, End}
@@ -54,9 +55,10 @@ module _ (len : ℕ) (w : Scene) where
     acted h g e = rw f (h, rw q at g, rw q at e)
 
     -- the image was opened
-    pub opened-turn : {d : Desk} {s : State} → t .turn ≡ Open → d ≡ openReply (imageOf (inState (w .work) (t .state))) .desk → s ≡ openedOf (t .state)
-        → OneTurn len w (record { input = w .input; work = inState (w .work) s; desk = d })
-    opened-turn o e z = acted (nothingHeard (w .input)) (rw o refl) (rw (o, e, z))
+    pub opened-turn : {d : Desk} {s : State} {img : List ℕ} → t .turn ≡ Open → let i = imageOf (inState (w .work) (t .state)) in
+        d ≡ openReply i len .desk → img ≡ made (openEntries i len) i → s ≡ openedOf (t .state)
+        → OneTurn len w (record { input = w .input; work = inState (withImage (inState (w .work) (t .state)) img) s; desk = d })
+    opened-turn o e i z = acted (nothingHeard (w .input)) (rw o refl) (rw (o, e, i, z))
 
     -- a step was made
     pub called-turn : (step : Step) {d : Desk} {v : Work} → t .turn ≡ Call step

@@ -9,7 +9,7 @@ use lib.ListN.{length, take, drop}
 use lib.Dec.{ltb}
 use Rattle.layout.specs.Entries.{made}
 use Rattle.layout.specs.Told.{layTold}
-use Rattle.recovery.specs.Open.{openReply}
+use Rattle.recovery.specs.Open.{openReply, openEntries}
 use Rattle.recovery.specs.Recover.{recoverReply, recoverEntries}
 use Rattle.desk.specs.declared.state.Desk.{Desk}
 use Rattle.feed.specs.Feed.{Refilled}
@@ -95,7 +95,7 @@ called len d step words w =
 
 -- the work after a turn, `words` being those of a write
 abbrev pub workAfter : ℕ → Heard → Turn → List ℕ → Desk → Work → Work
-workAfter len h Open words d w = inState w (openedOf (w .state))
+workAfter len h Open words d w = inState (withImage w (made (openEntries (imageOf w) len) (imageOf w))) (openedOf (w .state))
 workAfter len h Recover words d w = aside len h Recover w
 workAfter len h Fill words d w = aside len h Fill w
 workAfter len h (Call step) words d w = called len d step words w
@@ -105,7 +105,7 @@ workAfter len h End words d w = aside len h End w
 
 -- the desk after a turn: an opening gives it, a call changes it
 abbrev pub deskTurned : ℕ → Turn → List ℕ → Desk → Work → Desk
-deskTurned len Open words d w = openReply (imageOf w) .desk
+deskTurned len Open words d w = openReply (imageOf w) len .desk
 deskTurned len Recover words d w = d
 deskTurned len Fill words d w = d
 deskTurned len (Call step) words d w = appliedOf (imageOf w) d len step words .desk

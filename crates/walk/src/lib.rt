@@ -1,8 +1,8 @@
 // A walk through a step stream. `run` is public for the programs above: it asks for a `before` at least as long as the image, that the
-// bytes said to be held fit the input buffer, and for an output with room for a line.
+// bytes said to be held fit the input buffer, for an output with room for a line, and for a trace with room for any list.
 ghost use Prim.Native.Nat.{_≤_};
 ghost use lib.ListN.{length};
-ghost use Rattle.recovery.specs.Open.{openReply};
+ghost use Rattle.recovery.specs.Open.{freshDesk};
 ghost use Rattle.turns.specs.State.{firstState};
 ghost use Rattle.walk.specs.Walk.{sceneOf, Leaves};
 
@@ -26,15 +26,15 @@ pub fn run(
     have: usize,
     ended: bool,
 )
-    requires { ⌜ (256 ≤ length (now output)) × (have ≤ length (now input)) × (length (now image) ≤ length (now before)) ⌝ }
+    requires { ⌜ (256 ≤ length (now output)) × (have ≤ length (now input)) × (length (now image) ≤ length (now before))
+        × (48 ≤ length (now trace)) ⌝ }
     ensures { λ r.
         ⌜ Leaves (length (now (trace .entry)))
-        (sceneOf (now (input .entry)) (now (image .entry)) (now (output .entry)) (openReply (now (image .entry)) .desk)
+        (sceneOf (now (input .entry)) (now (image .entry)) (now (output .entry)) (freshDesk 0 0 0)
         (firstState have ended)) (now (input .exit)) (now (image .exit)) (now (output .exit)) ⌝ }
 {
     let mut s = start(have, ended);
-    let none = store::open(image);
-    let mut desk = none.desk;
+    let mut desk = recovery::fresh(0, 0, 0);
     let mut turns = TURNS;
     while (0 < turns) & !s.stopped {
         let t = take_turn(input, image, before, trace, output, desk, s);

@@ -95,7 +95,7 @@ pub fn take_turn(
     match turn {
         Turn::Open => {
             let size = next.size;
-            let r = store::open(&image[..size]);
+            let r = store::open(&mut image[..size], trace);
             let d = r.desk;
             gives(d, opened(next))
         }

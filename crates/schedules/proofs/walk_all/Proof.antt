@@ -7,7 +7,7 @@ use Rattle.schedules.proofs.walk_all.Tie as tie
 
 abbrev Inv-loop : tie.InvT-loop
 Inv-loop input₀ image₀ before₀ trace₀ output₀ left₀ input image before trace output left =
-    (256 ≤ length output) × (length input ≡ length input₀) × (length image ≡ length image₀) × (length before ≡ length before₀) × (length trace ≡ length trace₀) ×
+    (256 ≤ length output) × (48 ≤ length trace) × (length input ≡ length input₀) × (length image ≡ length image₀) × (length before ≡ length before₀) × (length trace ≡ length trace₀) ×
     (length output ≡ length output₀)
 
 abbrev μ-loop : tie.MeasureT-loop

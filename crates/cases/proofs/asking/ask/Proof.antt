@@ -49,42 +49,45 @@ returns c = let e = (c .before .before .before .before .before) .request .given 
 same-length-2 : tie.Need-same-length-2
 same-length-2 c = search needs
 
-returns-2 : tie.Need-returns-2
-unfolding askedOf askedImage askedTrace
-returns-2 c = let e = (c .before .before) .enum-told .given .1 in (rw (c .ask-open .ensures, e), (rw e, rw e))
-
 same-length-3 : tie.Need-same-length-3
 same-length-3 c = search needs
 
+returns-2 : tie.Need-returns-2
+unfolding askedOf askedImage askedTrace
+returns-2 c = let e = (c .before .before .before .before .before .before .before) .enum-told .given .1 in let w = (c .before .before .before .before) .ask-open .ensures in (rw e (w .0), (rw e (w .1 .0), rw e (w .1 .1)))
+
 same-length-4 : tie.Need-same-length-4
 same-length-4 c = search needs
+
+same-length-5 : tie.Need-same-length-5
+same-length-5 c = search needs
 
 returns-3 : tie.Need-returns-3
 unfolding askedOf askedImage askedTrace
 returns-3 c = let e = (c .before .before .before .before .before .before .before) .enum-told2 .given .1 in let w = (c .before .before .before .before) .ask-recover .ensures in (rw e (w .0), (rw e (w .1 .0), rw e (w .1 .1)))
 
-same-length-5 : tie.Need-same-length-5
-same-length-5 c = search needs
-
 same-length-6 : tie.Need-same-length-6
 same-length-6 c = search needs
+
+same-length-7 : tie.Need-same-length-7
+same-length-7 c = search needs
 
 returns-4 : tie.Need-returns-4
 unfolding askedOf askedImage askedTrace
 returns-4 c = let e = (c .before .before .before .before .before .before .before .before) .request2 .given .1 in let w = (c .before .before .before .before) .ask-step .ensures in (rw e (w .0), (rw e (w .1 .0), rw e (w .1 .1)))
 
-same-length-7 : tie.Need-same-length-7
-same-length-7 c = search needs
+same-length-8 : tie.Need-same-length-8
+same-length-8 c = search needs
 
 returns-5 : tie.Need-returns-5
 unfolding askedOf askedImage askedTrace
 returns-5 c = let e = (c .before .before .before) .request3 .given .1 in (rw (c .ask-reel .ensures, e), (rw e, rw e))
 
-same-length-8 : tie.Need-same-length-8
-same-length-8 c = search needs
-
 same-length-9 : tie.Need-same-length-9
 same-length-9 c = search needs
+
+same-length-10 : tie.Need-same-length-10
+same-length-10 c = search needs
 
 returns-6 : tie.Need-returns-6
 unfolding askedOf askedImage askedTrace
@@ -109,15 +112,16 @@ ask-spec =
     same-length
     returns
     same-length-2
-    returns-2
     same-length-3
+    returns-2
     same-length-4
-    returns-3
     same-length-5
+    returns-3
     same-length-6
-    returns-4
     same-length-7
-    returns-5
+    returns-4
     same-length-8
+    returns-5
     same-length-9
+    same-length-10
     returns-6)

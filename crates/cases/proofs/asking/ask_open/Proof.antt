@@ -11,8 +11,24 @@ open-told-requires c κs = search needs
 gives-requires : tie.Need-gives-requires
 gives-requires c κs = search needs
 
+same-length : tie.Need-same-length
+same-length c = search needs
+
+same-length-2 : tie.Need-same-length-2
+same-length-2 c = search needs
+
 returns : tie.Need-returns
-returns c = rw (c .gives .ensures, (c .before) .open-told .ensures, (c .before .before .before) .«open» .ensures .0)
+returns c =
+    let w = (c .before .before .before .before .before .before .before) .«open» .ensures in
+    (rw (c .gives .ensures, (c .before) .open-told .ensures, w .0), (w .1 .0, w .1 .1 .0))
 
 pub ask-open-spec : {M : Type 1} → statement M
-ask-open-spec = tie.close (tie.spec open-requires open-told-requires gives-requires returns)
+ask-open-spec =
+    tie.close
+    (tie.spec
+    open-requires
+    open-told-requires
+    gives-requires
+    same-length
+    same-length-2
+    returns)

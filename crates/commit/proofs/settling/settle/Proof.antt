@@ -23,10 +23,10 @@ use Rattle.commit.proofs.settling.settle.Statement.{statement}
 use Rattle.commit.proofs.settling.settle.Tie as tie
 
 abbrev Inv-loop : tie.InvT-loop
-Inv-loop image trace session desk sound n m fault i e end reader₀ t₀ reader t = (t ≤ 16) × (reader ≡ oldestOf (startsFor desk session) t)
+Inv-loop image trace session desk sound clock n m fault i e end reader₀ t₀ reader t = (t ≤ 16) × (reader ≡ oldestOf (startsFor desk session) t)
 
 abbrev μ-loop : tie.MeasureT-loop
-μ-loop image trace session desk sound n m fault i e end reader₀ t₀ reader t = 16 - t
+μ-loop image trace session desk sound clock n m fault i e end reader₀ t₀ reader t = 16 - t
 
 -- the common checks have passed
 passed : (c : tie.Else1 Inv-loop μ-loop) → imageFault (c .before .before .before .before .before .before .args .image .now) (c .before .before .before .before .before .before .args .t2) (roomFor (length (c .before .before .before .before .before .before .args .trace .now))) (c .before .before .before .before .before .before .args .session) ≡ 0
@@ -135,8 +135,8 @@ unmark-requires c κs = let f = facts (c .before .before .before .before .before
 idle-session-requires : tie.Need-idle-session-requires Inv-loop μ-loop
 idle-session-requires c κs = search needs
 
-mul-t24 : tie.Need-mul-t24 Inv-loop μ-loop
-mul-t24 c = omega (arith, facts (c .before .before .before .before .before .before .before .before .before .before .before .before .before .before .before .before .before .before .before .before .before .before .before) .small)
+mul-t25 : tie.Need-mul-t25 Inv-loop μ-loop
+mul-t25 c = omega (arith, facts (c .before .before .before .before .before .before .before .before .before .before .before .before .before .before .before .before .before .before .before .before .before .before .before) .small)
 
 element-set-from-desk : tie.Need-element-set-from-desk Inv-loop μ-loop
 element-set-from-desk c = facts (c .before .before .before .before .before .before .before .before .before .before .before .before .before .before .before .before .before .before .before .before .before .before .before) .small
@@ -197,7 +197,7 @@ settle-spec =
     put-fence-requires
     unmark-requires
     idle-session-requires
-    mul-t24
+    mul-t25
     element-set-from-desk
     settle-length-requires
     answers-requires-4

@@ -51,8 +51,8 @@ own-place-requires c κs = search needs
 overwrite-requires : tie.Need-overwrite-requires
 overwrite-requires c κs = search needs
 
-mul-t34 : tie.Need-mul-t34
-mul-t34 c = omega (arith, facts (c .before .before .before .before .before .before) .session .small)
+mul-t35 : tie.Need-mul-t35
+mul-t35 c = omega (arith, facts (c .before .before .before .before .before .before) .session .small)
 
 element-set-from-desk : tie.Need-element-set-from-desk
 element-set-from-desk c = facts (c .before .before .before .before .before .before) .session .small
@@ -81,17 +81,17 @@ unmark-requires c κs = let f = facts (c .before .before .before .before .before
 idle-session-requires : tie.Need-idle-session-requires
 idle-session-requires c κs = search needs
 
-mul-t45 : tie.Need-mul-t45
-mul-t45 c = omega (arith, facts (c .before .before .before .before .before .before .before .before .before .before .before .before .before) .session .small)
+mul-t46 : tie.Need-mul-t46
+mul-t46 c = omega (arith, facts (c .before .before .before .before .before .before .before .before .before .before .before .before .before) .session .small)
 
 element-set-from-desk-2 : tie.Need-element-set-from-desk-2
 element-set-from-desk-2 c = facts (c .before .before .before .before .before .before .before .before .before .before .before .before .before) .session .small
 
-cast-t49 : tie.Need-cast-t49
-cast-t49 c = omega (arith, facts (c .before .before .before .before .before .before .before .before .before .before .before .before .before) .session .coherent .marks ((c .before .before .before .before .before .before .before .before .before .before .before .before .before .before .before .before .before) .args .rec) (facts (c .before .before .before .before .before .before .before .before .before .before .before .before .before) .small) .0 .0)
+cast-t50 : tie.Need-cast-t50
+cast-t50 c = omega (arith, facts (c .before .before .before .before .before .before .before .before .before .before .before .before .before) .session .coherent .marks ((c .before .before .before .before .before .before .before .before .before .before .before .before .before .before .before .before .before) .args .rec) (facts (c .before .before .before .before .before .before .before .before .before .before .before .before .before) .small) .0 .0)
 
-sub-t50 : tie.Need-sub-t50
-sub-t50 c = let n = taken-marked _ _ _ (sym ((c .before .before .before .before .before) .copy-fault .ensures) ∙ (c .before .before .before .before) .if4 .taken) in omega (arith, n)
+sub-t51 : tie.Need-sub-t51
+sub-t51 c = let n = taken-marked _ _ _ (sym ((c .before .before .before .before .before) .copy-fault .ensures) ∙ (c .before .before .before .before) .if4 .taken) in omega (arith, n)
 
 answers-requires-4 : tie.Need-answers-requires-4
 answers-requires-4 c κs = search needs
@@ -127,8 +127,8 @@ element-write-desk c = facts (c .before .before .before .before .before .before 
 extend-requires : tie.Need-extend-requires
 extend-requires c κs = copy-room _ _ _ (sym ((c .before .before .before) .copy-fault .ensures) ∙ (c .before) .if5 .left)
 
-mul-t26 : tie.Need-mul-t26
-mul-t26 c = omega (arith, facts (c .before .before .before .before .before .before .before .before .before .before .before .before) .session .small)
+mul-t27 : tie.Need-mul-t27
+mul-t27 c = omega (arith, facts (c .before .before .before .before .before .before .before .before .before .before .before .before) .session .small)
 
 element-set-from-desk-3 : tie.Need-element-set-from-desk-3
 element-set-from-desk-3 c = facts (c .before .before .before .before .before .before .before .before .before .before .before .before) .session .small
@@ -158,7 +158,7 @@ write-spec =
     returns-2
     own-place-requires
     overwrite-requires
-    mul-t34
+    mul-t35
     element-set-from-desk
     answers-requires-3
     returns-3
@@ -167,10 +167,10 @@ write-spec =
     copy-fault-requires
     unmark-requires
     idle-session-requires
-    mul-t45
+    mul-t46
     element-set-from-desk-2
-    cast-t49
-    sub-t50
+    cast-t50
+    sub-t51
     answers-requires-4
     returns-4
     answers-requires-5
@@ -180,7 +180,7 @@ write-spec =
     add-desk
     element-write-desk
     extend-requires
-    mul-t26
+    mul-t27
     element-set-from-desk-3
     answers-requires-6
     returns-6)

@@ -89,23 +89,29 @@ same-length-4 c = search needs
 returns-5 : tie.Need-returns-5
 returns-5 c = let e = (c .before .before .before .before .before .before .before .before) .step4 .given .1 in let w = (c .before .before .before .before) .apply-finish .ensures in (rw e (w .0), (rw e (w .1 .0), rw e (w .1 .1)))
 
-returns-6 : tie.Need-returns-6
-returns-6 c = let e = (c .before .before) .step5 .given .1 in (rw (c .apply-publish .ensures, e), (rw e, rw e))
-
 same-length-5 : tie.Need-same-length-5
 same-length-5 c = search needs
 
 same-length-6 : tie.Need-same-length-6
 same-length-6 c = search needs
 
-returns-7 : tie.Need-returns-7
-returns-7 c = let e = (c .before .before .before .before .before .before .before .before) .step6 .given .1 in let w = (c .before .before .before .before) .apply-settle .ensures in (rw e (w .0), (rw e (w .1 .0), rw e (w .1 .1)))
+returns-6 : tie.Need-returns-6
+returns-6 c = let e = (c .before .before .before .before .before .before .before .before) .step5 .given .1 in let w = (c .before .before .before .before) .apply-publish .ensures in (rw e (w .0), (rw e (w .1 .0), rw e (w .1 .1)))
 
 same-length-7 : tie.Need-same-length-7
 same-length-7 c = search needs
 
 same-length-8 : tie.Need-same-length-8
 same-length-8 c = search needs
+
+returns-7 : tie.Need-returns-7
+returns-7 c = let e = (c .before .before .before .before .before .before .before .before) .step6 .given .1 in let w = (c .before .before .before .before) .apply-settle .ensures in (rw e (w .0), (rw e (w .1 .0), rw e (w .1 .1)))
+
+same-length-9 : tie.Need-same-length-9
+same-length-9 c = search needs
+
+same-length-10 : tie.Need-same-length-10
+same-length-10 c = search needs
 
 returns-8 : tie.Need-returns-8
 returns-8 c = let e = (c .before .before .before .before .before .before .before .before) .step7 .given .1 in let w = (c .before .before .before .before) .apply-reclaim .ensures in (rw e (w .0), (rw e (w .1 .0), rw e (w .1 .1)))
@@ -149,12 +155,14 @@ apply-spec =
     same-length-3
     same-length-4
     returns-5
-    returns-6
     same-length-5
     same-length-6
-    returns-7
+    returns-6
     same-length-7
     same-length-8
+    returns-7
+    same-length-9
+    same-length-10
     returns-8
     returns-9
     returns-10)

@@ -41,8 +41,8 @@ next-turn-requires c κs = search needs
 enum-told : tie.Need-enum-told
 enum-told c = search needs
 
-slice-reshare-prefix-open : tie.Need-slice-reshare-prefix-open
-slice-reshare-prefix-open c = search needs
+slice-relend-prefix-open : tie.Need-slice-relend-prefix-open
+slice-relend-prefix-open c = search needs
 
 slice-aggregate-open : tie.Need-slice-aggregate-open
 slice-aggregate-open c = sym (length-take-le ((c .before .before .before .before) .next-turn .result .state .size) ((c .before .before .before .before .before .before .before .before .before .before .before .before .before) .args .image .now) (search needs))
@@ -88,18 +88,19 @@ same-length-2 c = search needs
 same-length-3 : tie.Need-same-length-3
 same-length-3 c = search needs
 
-returns-2 : tie.Need-returns-2
-returns-2 c =
-    let a = (c .before .before .before .before .before .before .before .before .before .before .before .before .before .before .before .before .before) .args in
-    let n = (c .before .before .before .before .before .before .before .before) .next-turn .ensures in
-    let e = (c .before) .opened .ensures in
-    rw (c .gives2 .ensures) (
-      (turned ((c .before .before .before .before .before .before .before .before .before .before .before .before .before .before .before .before .before) .pre .0) (n .0) (e .0) (search needs), omega (arith, n .0 .numbered, e .0 .numbered)),
-      opened-turn (length (a .trace .now)) (sceneOf (a .input .now) (a .image .now) (a .output .now) (a .desk) (a .s)) (le-ltb _ _ ((c .before .before .before .before .before .before .before .before .before .before) .if1 .left)) (n .1) ((c .before .before .before .before .before) .enum-told .given .1) (ap (λ (x : OpenReply). x .desk) ((c .before .before .before) .«open» .ensures .0)) (e .1),
-    )
-
 same-length-4 : tie.Need-same-length-4
 same-length-4 c = search needs
+
+returns-2 : tie.Need-returns-2
+returns-2 c =
+    let a = (c .before .before .before .before .before .before .before .before .before .before .before .before .before .before .before .before .before .before .before .before .before .before) .args in
+    let n = (c .before .before .before .before .before .before .before .before .before .before .before .before .before) .next-turn .ensures in
+    let o = (c .before .before .before .before .before .before .before) .«open» .ensures in
+    let e = (c .before) .opened .ensures in
+    rw (c .gives2 .ensures) (
+      (turned ((c .before .before .before .before .before .before .before .before .before .before .before .before .before .before .before .before .before .before .before .before .before .before) .pre .0) (n .0) (e .0) (omega (arith, (c .before .before .before .before .before .before .before .before .before .before .before .before .before .before .before .before .before .before .before .before .before .before) .pre .0 .written, n .0 .written)), omega (arith, n .0 .numbered, e .0 .numbered)),
+      opened-turn (length (a .trace .now)) (sceneOf (a .input .now) (a .image .now) (a .output .now) (a .desk) (a .s)) (le-ltb _ _ ((c .before .before .before .before .before .before .before .before .before .before .before .before .before .before .before) .if1 .left)) (n .1) ((c .before .before .before .before .before .before .before .before .before .before) .enum-told .given .1) (ap (λ (x : OpenReply). x .desk) (o .0)) (o .1 .0) (e .1),
+    )
 
 same-length-5 : tie.Need-same-length-5
 same-length-5 c = search needs
@@ -112,6 +113,9 @@ same-length-7 c = search needs
 
 same-length-8 : tie.Need-same-length-8
 same-length-8 c = search needs
+
+same-length-9 : tie.Need-same-length-9
+same-length-9 c = search needs
 
 returns-3 : tie.Need-returns-3
 returns-3 c =
@@ -127,9 +131,6 @@ returns-3 c =
           (ap (λ (x : Applied). x .desk) (m .0)),
     )
 
-same-length-9 : tie.Need-same-length-9
-same-length-9 c = search needs
-
 same-length-10 : tie.Need-same-length-10
 same-length-10 c = search needs
 
@@ -138,6 +139,9 @@ same-length-11 c = search needs
 
 same-length-12 : tie.Need-same-length-12
 same-length-12 c = search needs
+
+same-length-13 : tie.Need-same-length-13
+same-length-13 c = search needs
 
 returns-4 : tie.Need-returns-4
 returns-4 c =
@@ -161,7 +165,7 @@ take-turn-spec =
     returns
     next-turn-requires
     enum-told
-    slice-reshare-prefix-open
+    slice-relend-prefix-open
     slice-aggregate-open
     open-requires
     opened-requires
@@ -176,15 +180,16 @@ take-turn-spec =
     gives-requires-4
     same-length-2
     same-length-3
-    returns-2
     same-length-4
+    returns-2
     same-length-5
     same-length-6
     same-length-7
     same-length-8
-    returns-3
     same-length-9
+    returns-3
     same-length-10
     same-length-11
     same-length-12
+    same-length-13
     returns-4)
