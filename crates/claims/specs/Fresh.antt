@@ -1,5 +1,5 @@
 -- Numbers that never come back after a restart (document 02, Req 05): no start or end number of one opening is given in a later one. The
--- image is not laid anew between.
+-- image is not laid anew between, and the desk of an opening is dropped at the next one.
 use Prim.Native.Nat.{ℕ}
 use mathlib.Core.Bool.{cond, _||_}
 use mathlib.Core.Option.{Option, none, some}

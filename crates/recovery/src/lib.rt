@@ -4,7 +4,6 @@ mod recovering;
 
 pub use opening::OpenAnswer;
 pub use opening::OpenReply;
-pub use opening::fresh;
 pub use opening::open;
 pub use recovering::RecoverAnswer;
 pub use recovering::RecoverReply;

@@ -19,8 +19,8 @@ pub struct OpenReply {
     pub desk: Desk,
 }
 
-// A desk with this clock, N and M, all idle, unmarked; public for the crate above, whose walk starts without an image.
-pub fn fresh(clock: u64, n: u64, m: u64) -> Desk
+// A desk with this clock, N and M, all idle, unmarked.
+fn fresh(clock: u64, n: u64, m: u64) -> Desk
     ensures { λ r. ⌜ r ≡ freshDesk clock n m ⌝ }
 {
     let idle = idle_session();

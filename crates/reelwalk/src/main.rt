@@ -6,12 +6,15 @@ fn main() {
     let mut image: [u64; 1732] = [0; 1732];
     let mut before: [u64; 1732] = [0; 1732];
     let mut trace: [u64; 48] = [0; 48];
+    // zeros are no image: the desk of a refused opening
+    let none = store::open(&mut image, &mut trace);
     walk::run(
         &mut input,
         &mut image,
         &mut before,
         &mut trace,
         &mut output,
+        none.desk,
         0,
         false,
     );

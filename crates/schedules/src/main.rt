@@ -3,6 +3,7 @@
 ghost use mathlib.Core.Path.{_≡_};
 ghost use Prim.Native.Nat.{_<_, _≤_};
 ghost use lib.ListN.{length};
+use store::Desk;
 
 // The next stream, of `size` bytes; with none left, `ended`.
 struct Stream {
@@ -61,6 +62,7 @@ fn walk_all(
     before: &mut [u64],
     trace: &mut [u64],
     output: &mut [u8],
+    first: Desk,
 )
     requires { ⌜ (256 ≤ length (now output)) × (length (now image) ≤ length (now before)) × (48 ≤ length (now trace)) ⌝ }
 {
@@ -70,7 +72,16 @@ fn walk_all(
         if stream.ended {
             return;
         }
-        walk::run(input, image, before, trace, output, stream.size, true);
+        walk::run(
+            input,
+            image,
+            before,
+            trace,
+            output,
+            first,
+            stream.size,
+            true,
+        );
         left -= 1;
     }
 }
@@ -81,5 +92,14 @@ fn main() {
     let mut image: [u64; 1732] = [0; 1732];
     let mut before: [u64; 1732] = [0; 1732];
     let mut trace: [u64; 48] = [0; 48];
-    walk_all(&mut input, &mut image, &mut before, &mut trace, &mut output);
+    // zeros are no image: the desk of a refused opening
+    let none = store::open(&mut image, &mut trace);
+    walk_all(
+        &mut input,
+        &mut image,
+        &mut before,
+        &mut trace,
+        &mut output,
+        none.desk,
+    );
 }

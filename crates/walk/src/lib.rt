@@ -2,13 +2,13 @@
 // bytes said to be held fit the input buffer, for an output with room for a line, and for a trace with room for any list.
 ghost use Prim.Native.Nat.{_≤_};
 ghost use lib.ListN.{length};
-ghost use Rattle.recovery.specs.Open.{freshDesk};
 ghost use Rattle.turns.specs.State.{firstState};
 ghost use Rattle.walk.specs.Walk.{sceneOf, Leaves};
 
 mod turn;
 mod turning;
 
+use store::Desk;
 use turning::take_turn;
 use turns::start;
 
@@ -16,13 +16,14 @@ use turns::start;
 const TURNS: u64 = 18446744073709551614;
 
 // Walks through a stream: its first `have` bytes are in the input buffer, and unless it has ended, more come from standard input. The lines
-// go to standard output.
+// go to standard output. The first desk may be any: the first step lays and opens, or is bad.
 pub fn run(
     input: &mut [u8],
     image: &mut [u64],
     before: &mut [u64],
     trace: &mut [u64],
     output: &mut [u8],
+    first: Desk,
     have: usize,
     ended: bool,
 )
@@ -30,11 +31,11 @@ pub fn run(
         × (48 ≤ length (now trace)) ⌝ }
     ensures { λ r.
         ⌜ Leaves (length (now (trace .entry)))
-        (sceneOf (now (input .entry)) (now (image .entry)) (now (output .entry)) (freshDesk 0 0 0)
+        (sceneOf (now (input .entry)) (now (image .entry)) (now (output .entry)) first
         (firstState have ended)) (now (input .exit)) (now (image .exit)) (now (output .exit)) ⌝ }
 {
     let mut s = start(have, ended);
-    let mut desk = recovery::fresh(0, 0, 0);
+    let mut desk = first;
     let mut turns = TURNS;
     while (0 < turns) & !s.stopped {
         let t = take_turn(input, image, before, trace, output, desk, s);

@@ -6,12 +6,12 @@ use Rattle.schedules.proofs.walk_all.Statement.{statement}
 use Rattle.schedules.proofs.walk_all.Tie as tie
 
 abbrev Inv-loop : tie.InvT-loop
-Inv-loop input₀ image₀ before₀ trace₀ output₀ left₀ input image before trace output left =
+Inv-loop input₀ image₀ before₀ trace₀ output₀ first left₀ input image before trace output left =
     (256 ≤ length output) × (48 ≤ length trace) × (length input ≡ length input₀) × (length image ≡ length image₀) × (length before ≡ length before₀) × (length trace ≡ length trace₀) ×
     (length output ≡ length output₀)
 
 abbrev μ-loop : tie.MeasureT-loop
-μ-loop input₀ image₀ before₀ trace₀ output₀ left₀ input image before trace output left = left
+μ-loop input₀ image₀ before₀ trace₀ output₀ first left₀ input image before trace output left = left
 
 loop-holds : tie.Need-loop-holds Inv-loop μ-loop
 loop-holds c = search needs

@@ -27,9 +27,6 @@ abbrev μ-loop : tie.MeasureT-loop
 start-requires : tie.Need-start-requires Inv-loop μ-loop
 start-requires c κs = search needs
 
-fresh-requires : tie.Need-fresh-requires Inv-loop μ-loop
-fresh-requires c κs = search needs
-
 loop-holds : tie.Need-loop-holds Inv-loop μ-loop
 loop-holds c = (search needs, search needs, search needs, search needs, search needs, search needs, search needs, went-none refl)
 
@@ -37,7 +34,7 @@ take-turn-requires : tie.Need-take-turn-requires Inv-loop μ-loop
 take-turn-requires c κs =
     let i = (c .before .before .before .before .before .before .before) .loop .inv in
     let l = goes-on ((c .before .before .before .before .before .before .before) .loop .turns) ((c .before .before .before .before .before .before .before) .loop .s .stopped) ((c .before .before .before .before .before) .if1 .taken) in
-    (i .0, (omega (arith, i .2, i .3, (c .before .before .before .before .before .before .before .before .before .before .before .before .before .before .before) .pre .2), omega (arith, i .6, l)))
+    (i .0, (omega (arith, i .2, i .3, (c .before .before .before .before .before .before .before .before .before .before .before .before .before .before) .pre .2), omega (arith, i .6, l)))
 
 sub-turns : tie.Need-sub-turns Inv-loop μ-loop
 sub-turns c = omega (arith, goes-on ((c .before .before .before .before .before .before .before .before .before .before .before .before .before .before .before .before .before .before .before .before) .loop .turns) ((c .before .before .before .before .before .before .before .before .before .before .before .before .before .before .before .before .before .before .before .before) .loop .s .stopped) ((c .before .before .before .before .before .before .before .before .before .before .before .before .before .before .before .before .before .before) .if1 .taken))
@@ -81,7 +78,7 @@ same-length-5 c = search needs
 returns : tie.Need-returns Inv-loop μ-loop
 returns c =
     let i = (c .before .before .before .before) .loop .inv in
-    (_, rw ((c .before .before .before .before .before .before) .start .ensures .1, (c .before .before .before .before .before) .fresh .ensures) at (went-whole ((c .before .before) .if1 .left) (i .7)), refl, refl, refl)
+    (_, rw ((c .before .before .before .before .before) .start .ensures .1) at (went-whole ((c .before .before) .if1 .left) (i .7)), refl, refl, refl)
 
 pub run-spec : {M : Type 1} → statement M
 run-spec =
@@ -90,7 +87,6 @@ run-spec =
     Inv-loop
     μ-loop
     start-requires
-    fresh-requires
     loop-holds
     take-turn-requires
     sub-turns
