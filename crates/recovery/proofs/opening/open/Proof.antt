@@ -26,7 +26,9 @@ same-length : tie.Need-same-length
 same-length c = search needs
 
 returns : tie.Need-returns
-returns c = let g = open-refused _ _ ((c .before .before) .open-fault .result) ((c .before .before) .open-fault .ensures) ((c .before) .if1 .taken) in open-tells _ _ (rw (c .fresh .ensures) (sym (g .replies)), stored-none _ _ _ (g .lists))
+returns c =
+    let g = open-refused _ _ ((c .before .before) .open-fault .result) ((c .before .before) .open-fault .ensures) ((c .before) .if1 .taken) in
+    open-tells _ _ (rw (c .fresh .ensures) (sym (g .replies)), stored-none _ _ _ (g .lists))
 
 word-requires : tie.Need-word-requires
 word-requires c κs = search needs
@@ -41,7 +43,9 @@ add-clock : tie.Need-add-clock
 add-clock c = omega (arith, c .word3 .ensures, facts (c .before .before .before .before .before .before) .below)
 
 raise-requires : tie.Need-raise-requires
-raise-requires c κs = let f = facts (c .before .before .before .before .before .before .before .before) in omega (arith, (c .before .before) .word3 .ensures, f .below, f .room, f .shaped .size)
+raise-requires c κs =
+    let f = facts (c .before .before .before .before .before .before .before .before) in
+    omega (arith, (c .before .before) .word3 .ensures, f .below, f .room, f .shaped .size)
 
 fresh-requires-2 : tie.Need-fresh-requires-2
 fresh-requires-2 c κs = search needs
@@ -53,7 +57,11 @@ same-length-3 : tie.Need-same-length-3
 same-length-3 c = search needs
 
 returns-2 : tie.Need-returns-2
-returns-2 c = let g = open-opens _ _ (passed (c .before .before .before .before .before .before .before .before .before .before .before .before .before .before)) in let w = (c .before .before .before .before .before) .raise .ensures in let e = (c .before .before .before .before .before .before .before .before) .word3 .ensures in open-tells _ _ (rw (c .fresh2 .ensures, (c .before .before .before .before .before .before .before .before .before .before) .word2 .ensures, (c .before .before .before .before .before .before .before .before .before .before .before .before) .word .ensures, w .0, e) (sym (g .replies)), (rw (g .lists) (rw e at (w .1 .0)), rw (g .lists) (rw e at (w .1 .1))))
+returns-2 c =
+    let g = open-opens _ _ (passed (c .before .before .before .before .before .before .before .before .before .before .before .before .before .before)) in
+    let w = (c .before .before .before .before .before) .raise .ensures in
+    let e = (c .before .before .before .before .before .before .before .before) .word3 .ensures in
+    open-tells _ _ (rw (c .fresh2 .ensures, (c .before .before .before .before .before .before .before .before .before .before) .word2 .ensures, (c .before .before .before .before .before .before .before .before .before .before .before .before) .word .ensures, w .0, e) (sym (g .replies)), (rw (g .lists) (rw e at (w .1 .0)), rw (g .lists) (rw e at (w .1 .1))))
 
 pub open-spec : {M : Type 1} → statement M
 open-spec =

@@ -37,7 +37,9 @@ same-length : tie.Need-same-length
 same-length c = search needs
 
 returns : tie.Need-returns
-returns c = let g = publish-refused _ _ _ _ ((c .before .before) .entry-fault .result) (rw ((c .before .before .before .before) .coherent .ensures) at ((c .before .before) .entry-fault .ensures)) ((c .before) .if1 .taken) in publish-tells _ _ _ _ (c .gives .ensures ∙ sym (g .replies), stored-none _ _ _ (g .lists))
+returns c =
+    let g = publish-refused _ _ _ _ ((c .before .before) .entry-fault .result) (rw ((c .before .before .before .before) .coherent .ensures) at ((c .before .before) .entry-fault .ensures)) ((c .before) .if1 .taken) in
+    publish-tells _ _ _ _ (c .gives .ensures ∙ sym (g .replies), stored-none _ _ _ (g .lists))
 
 mul-e : tie.Need-mul-e
 mul-e c = omega (arith, facts c .small)
@@ -55,13 +57,17 @@ same-length-2 : tie.Need-same-length-2
 same-length-2 c = search needs
 
 returns-2 : tie.Need-returns-2
-returns-2 c = let g = publish-busy _ _ _ _ (passed (c .before .before .before .before)) (sym ((c .before .before) .is-sealed .ensures) ∙ not-true _ ((c .before) .if2 .taken)) in publish-tells _ _ _ _ (c .gives2 .ensures ∙ sym (g .replies), stored-none _ _ _ (g .lists))
+returns-2 c =
+    let g = publish-busy _ _ _ _ (passed (c .before .before .before .before)) (sym ((c .before .before) .is-sealed .ensures) ∙ not-true _ ((c .before) .if2 .taken)) in
+    publish-tells _ _ _ _ (c .gives2 .ensures ∙ sym (g .replies), stored-none _ _ _ (g .lists))
 
 add-end : tie.Need-add-end
 add-end c = omega (arith, clock-moves _ (facts (c .before .before .before) .coherent))
 
 raise-past-requires : tie.Need-raise-past-requires
-raise-past-requires c κs = let f = facts (c .before .before .before .before .before) in omega (arith, f .shaped .size, room (c .before .before .before .before .before), f .coherent .clock-high)
+raise-past-requires c κs =
+    let f = facts (c .before .before .before .before .before) in
+    omega (arith, f .shaped .size, room (c .before .before .before .before .before), f .coherent .clock-high)
 
 with-phase-requires : tie.Need-with-phase-requires
 with-phase-requires c κs = search needs
@@ -82,7 +88,10 @@ same-length-4 : tie.Need-same-length-4
 same-length-4 c = search needs
 
 returns-3 : tie.Need-returns-3
-returns-3 c = let g = publish-ends _ _ _ _ (passed (c .before .before .before .before .before .before .before .before .before .before .before .before)) (sym ((c .before .before .before .before .before .before .before .before .before .before) .is-sealed .ensures) ∙ not-false _ ((c .before .before .before .before .before .before .before .before .before) .if2 .left)) in let w = (c .before .before .before .before .before .before) .raise-past .ensures in publish-tells _ _ _ _ (c .gives3 .ensures ∙ rw ((c .before) .with-phase .ensures, w .0) (sym (g .replies)), (rw (g .lists) (w .1 .0), rw (g .lists) (w .1 .1)))
+returns-3 c =
+    let g = publish-ends _ _ _ _ (passed (c .before .before .before .before .before .before .before .before .before .before .before .before)) (sym ((c .before .before .before .before .before .before .before .before .before .before) .is-sealed .ensures) ∙ not-false _ ((c .before .before .before .before .before .before .before .before .before) .if2 .left)) in
+    let w = (c .before .before .before .before .before .before) .raise-past .ensures in
+    publish-tells _ _ _ _ (c .gives3 .ensures ∙ rw ((c .before) .with-phase .ensures, w .0) (sym (g .replies)), (rw (g .lists) (w .1 .0), rw (g .lists) (w .1 .1)))
 
 pub publish-spec : {M : Type 1} → statement M
 publish-spec =
