@@ -3,28 +3,27 @@ use Prim.Native.Nat.{ℕ, zero, suc, _+_, _*_, _≤_, _<_}
 use mathlib.Core.Path.{_≡_, refl, sym, ap, _∙_, fun-ext}
 use mathlib.Core.Logic.{_⊎_, inl, inr}
 use mathlib.Core.Bool.{Bool, true, false, not}
-use mathlib.Core.List.{List, []}
+use mathlib.Core.List.{List}
 use native.Mathlib.Decide.{decLt}
 use native.Mathlib.Omega.{arith}
-use lib.Dec.{eqb, ltb}
+use lib.Dec.{eqb}
 use lib.ListN.{getD, replicate, List·getD-eq-default}
 use lib.Seq.{getD-set-same}
-use borrow.Author.Tests.{eqb-true, not-true, ltb-true}
+use borrow.Author.Tests.{eqb-true}
 use Rattle.layout.specs.Below.{anyBelow}
 use Rattle.layout.proofs.BelowLaws.{any-finds}
 use Rattle.layout.specs.Ceiling.{raiseEntries}
-use Rattle.layout.specs.Checks.{unless, first, answered, roomFor}
-use Rattle.layout.proofs.ChecksLaws.{first-both, unless-zero, answered-zero}
+use Rattle.layout.specs.Checks.{answered}
 use Rattle.layout.specs.Crash.{crashed as crash}
 use Rattle.layout.specs.Entries.{made}
 use Rattle.layout.specs.Image.{slotAt, recordsOf, sessionsOf, ceilingOf, shapedB, homeWords, persistAt, occupiedAt, occupiedB}
 use Rattle.layout.proofs.Says.{test}
 use Rattle.layout.proofs.Shape.{Shaped, says-shaped}
 use Rattle.layout.specs.Told.{ok}
-use Rattle.desk.specs.Coherent.{limit}
 use Rattle.desk.specs.Desk.{noSession, idleSession}
 use Rattle.journal.proofs.LogFacts.{Sound}
 use Rattle.recovery.specs.Open.{openFault, openEntries, openReply, openRefused, opened as openedReply, freshDesk}
+use Rattle.recovery.proofs.OpenLaws.{Openable, openable, open-opens}
 use Rattle.recovery.specs.Told.{openTold}
 use Rattle.recovery.specs.declared.opening.OpenReply.{OpenReply}
 use Rattle.history.specs.Log.{Occupied, Clean}
@@ -32,7 +31,7 @@ use Rattle.history.specs.Layout.{body, logOf, view}
 use Rattle.history.specs.Desk.{spot, Session as Txn, idle}
 use Rattle.history.proofs.Invariant.{Inv}
 use Rattle.history.proofs.Kept.{Holds, Crashed}
-use Rattle.history.proofs.MoveRaise.{raise-numbers, raise-holds, raise-crashed}
+use Rattle.history.proofs.MoveRaise.{raise-numbers, raise-above, raise-holds, raise-crashed}
 use Rattle.history.proofs.Slots.{One-word, made-one, cut-one}
 use Rattle.claims.specs.Run.{openLedger}
 use Rattle.claims.proofs.Abstraction.{pack, abs}
@@ -50,25 +49,23 @@ module _ (img : List ℕ) (len : ℕ) (o : openTold (openReply img len .answer) 
       go zero e = refl
       go (suc k) e = absurd (let z : _≡_ {A = ℕ} 0 1 = cc in omega arith)
 
-  pub opens-shaped : shapedB img ≡ true
-  unfolding openFault
-  opens-shaped = unless-zero (shapedB img) 0 (first-both (unless (shapedB img) 1) _ passes .0)
+  -- what the checks leave
+  facts : Openable img len
+  facts = openable img len passes
 
-  -- past checks 1 and 3
-  later : first (unless (not (occupiedB img (recordsOf img) (2 * sessionsOf img))) 11) (unless (ltb (ceilingOf img) limit) 10) ≡ 0
-  unfolding openFault
-  later = first-both (unless (roomFor len) 3) _ (first-both (unless (shapedB img) 1) _ passes .1) .1
+  shape : Shaped img
+  shape = facts .shaped
 
-  pub opens-below : ceilingOf img < limit
-  opens-below = ltb-true _ _ (unless-zero (ltb (ceilingOf img) limit) 9 (first-both (unless (not (occupiedB img (recordsOf img) (2 * sessionsOf img))) 11) _ later .1))
+  opens-shaped : shapedB img ≡ true
+  opens-shaped = says-shaped img .no shape
 
   -- all slots are empty
-  pub opens-clean : (p : ℕ) → p < 2 * sessionsOf img → persistAt img (recordsOf img) p ≡ 0
+  opens-clean : (p : ℕ) → p < 2 * sessionsOf img → persistAt img (recordsOf img) p ≡ 0
   unfolding occupiedB
   opens-clean p l = go (test (eqb (persistAt img (recordsOf img) p) 0))
     where
       none-occupied : anyBelow (2 * sessionsOf img) (occupiedAt img (recordsOf img)) ≡ false
-      none-occupied = not-true _ (unless-zero (not (occupiedB img (recordsOf img) (2 * sessionsOf img))) 10 (first-both (unless (not (occupiedB img (recordsOf img) (2 * sessionsOf img))) 11) _ later .0))
+      none-occupied = facts .empty
 
       go : (eqb (persistAt img (recordsOf img) p) 0 ≡ true) ⊎ (eqb (persistAt img (recordsOf img) p) 0 ≡ false) → persistAt img (recordsOf img) p ≡ 0
       go (inl e) = eqb-true _ _ e
@@ -79,15 +76,10 @@ module _ (img : List ℕ) (len : ℕ) (o : openTold (openReply img len .answer) 
   clock = ceilingOf img + 1
 
   pub opens-desk : openReply img len .desk ≡ freshDesk (ceilingOf img + 1) (recordsOf img) (sessionsOf img)
-  unfolding openReply
-  opens-desk = ap (λ (r : OpenReply). r .desk) (answered-zero (openFault img len) openRefused (openedReply img) passes)
+  opens-desk = ap (λ (r : OpenReply). r .desk) (open-opens img len passes .replies)
 
   pub opens-entries : openEntries img len ≡ raiseEntries (ceilingOf img + 1)
-  unfolding openEntries
-  opens-entries = answered-zero (openFault img len) (λ k. []) (raiseEntries (ceilingOf img + 1)) passes
-
-  shape : Shaped img
-  shape = says-shaped img .yes opens-shaped
+  opens-entries = open-opens img len passes .lists
 
   -- the image behind the opening: word 3 is stored, and nothing else
   abbrev raised : List ℕ
@@ -107,7 +99,7 @@ module _ (img : List ℕ) (len : ℕ) (o : openTold (openReply img len .answer) 
 
   pub opens-ready : Ready (recordsOf img) (sessionsOf img) (made (raiseEntries (ceilingOf img + 1)) img) (freshDesk (ceilingOf img + 1) (recordsOf img) (sessionsOf img))
   opens-ready =
-      let h = fresh-steady clock (recordsOf img) (sessionsOf img) (omega arith) (omega (arith, opens-below)) (shape .range .n-low) (shape .range .n-high) (shape .range .m-low) (shape .range .m-high) in
+      let h = fresh-steady clock (recordsOf img) (sessionsOf img) (omega arith) (omega (arith, facts .below)) (shape .range .n-low) (shape .range .n-high) (shape .range .m-low) (shape .range .m-high) in
       record {
         shaped = whole-raised .shaped;
         records = whole-raised .records;
@@ -180,12 +172,7 @@ module _ (img : List ℕ) (len : ℕ) (o : openTold (openReply img len .answer) 
         (record { good = record { whole = shape .size; sound = sounds; apart = inv .apart }; final = inv .final })
 
     pub opens-cut-ceiling : ceilingOf img ≤ ceilingOf (crash k sel (raiseEntries (ceilingOf img + 1)) img)
-    opens-cut-ceiling = go (torn .turn)
-      where
-        go : (ceilingOf (crash k sel (raiseEntries clock) img) ≡ ceilingOf img) ⊎ (ceilingOf (crash k sel (raiseEntries clock) img) ≡ clock + 1024)
-            → ceilingOf img ≤ ceilingOf (crash k sel (raiseEntries clock) img)
-        go (inl e) = omega (arith, e)
-        go (inr e) = omega (arith, e)
+    opens-cut-ceiling = raise-above (recordsOf img) (sessionsOf img) (clock + 1024) img _ torn (omega arith)
 
 -- the fresh desk, abstractly: all idle
 pub fresh-idle : (clock n m : ℕ) → abs (freshDesk clock n m) ≡ record { clock = clock; session = λ t. idle }

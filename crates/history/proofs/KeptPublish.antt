@@ -1,14 +1,13 @@
 -- Publish keeps the invariant.
 use Prim.Native.Nat.{ℕ, suc, _+_, _≤_, _<_}
 use mathlib.Core.Path.{_≡_, refl}
-use mathlib.Core.Logic.{_⊎_, inl, inr}
+use mathlib.Core.Logic.{inl}
 use mathlib.Core.Bool.{Bool, true, false, cond, not}
 use mathlib.Core.List.{List, []}
 use native.Mathlib.Omega.{arith}
 use lib.Dec.{T, leb, leb→le, nleb→lt}
 use lib.ListN.{getD}
 use lib.Seq.{take-nil, getD-set-same}
-use Rattle.layout.specs.Crash.{crashed as cut}
 use Rattle.layout.specs.Entries.{Entry, made}
 use Rattle.layout.specs.Told.{endedAt}
 use Rattle.history.specs.Layout.{view}
@@ -20,7 +19,7 @@ use Rattle.history.specs.Ledger.{ticked}
 use Rattle.history.proofs.Book.{ended-view}
 use Rattle.history.proofs.Invariant.{Inv}
 use Rattle.history.proofs.MovePublish.{publishing}
-use Rattle.history.proofs.MoveRaise.{raise-numbers, raise-holds, raise-crashed}
+use Rattle.history.proofs.MoveRaise.{raise-numbers, raise-above, raise-holds, raise-crashed}
 use Rattle.history.proofs.Slots.{made-one, cut-one}
 use Rattle.history.proofs.Kept.{Holds, Later, crashed, Done, refusing, past-room, past-session}
 
@@ -61,16 +60,12 @@ module _ (N M : ℕ) (img : List ℕ) (d : Desk) (h : History) (H : Holds N M im
       low = λ j lj. made-one 3 (end + 1024) img .others j (λ z. omega arith);
       top = rw f stands;
       low-cut = λ k sel j lj. cut-one 3 (end + 1024) img k sel .others j (λ z. omega arith);
-      top-cut = λ k sel. higher (cut k sel (raiseStores end) img) (cut-one 3 (end + 1024) img k sel .turn);
+      top-cut = λ k sel. raise-above N M (end + 1024) img _ (cut-one 3 (end + 1024) img k sel) (omega (arith, u));
       broken = λ k sel. raise-crashed N M (end + 1024) img _ (cut-one 3 (end + 1024) img k sel) h (crashed N M img d h H);
     }
       where
         stands : getD (made (raiseStores end) img) 3 0 ≡ end + 1024
         stands = getD-set-same img 3 (end + 1024) 0 (omega (arith, H .whole))
-
-        higher : (img′ : List ℕ) → (getD img′ 3 0 ≡ getD img 3 0) ⊎ (getD img′ 3 0 ≡ end + 1024) → getD img 3 0 ≤ getD img′ 3 0
-        higher img′ (inl e) = omega (arith, e)
-        higher img′ (inr e) = omega (arith, e)
 
     ends : Done N M img d h (publish len s) (record { answer = endedAt end; entries = passStores end (getD img 3 0) })
     ends = go (leb end (getD img 3 0)) refl (leb→le end (getD img 3 0)) (nleb→lt end (getD img 3 0))

@@ -68,6 +68,14 @@ module _ (N M n : ℕ) (img img′ : List ℕ) (ow : One-word 3 n img img′) wh
   still-sound : ((p : ℕ) → Occupied (2 * M) (view N img) p → Sound N (logOf (body N img p))) → (p : ℕ) → Occupied (2 * M) (view N img′) p → Sound N (logOf (body N img′ p))
   still-sound f p o = rw (bodies p) (f p (o .0, rw (raise-numbers p) at (o .1)))
 
+  -- the ceiling is no lower, if the word stored is not
+  pub raise-above : getD img 3 0 ≤ n → getD img 3 0 ≤ getD img′ 3 0
+  raise-above l = go (ow .turn)
+    where
+      go : (getD img′ 3 0 ≡ getD img 3 0) ⊎ (getD img′ 3 0 ≡ n) → getD img 3 0 ≤ getD img′ 3 0
+      go (inl e) = omega (arith, e)
+      go (inr e) = omega (arith, e, l)
+
   -- the invariant, with a clock that is at most the word stored
   pub raise-holds : (d : Desk) (h : History) → length img ≡ 4 + 4 * N + 44 * M
       → ((p : ℕ) → Occupied (2 * M) (view N img) p → Sound N (logOf (body N img p))) → Inv N M (view N img) d h → d .clock ≤ getD img′ 3 0

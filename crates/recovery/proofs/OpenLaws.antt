@@ -1,10 +1,10 @@
 -- Open, case by case, and what holds past its checks.
 use Prim.Native.Nat.{ℕ, _+_, _*_, _≤_, _<_}
-use mathlib.Core.Bool.{not}
+use mathlib.Core.Bool.{false, not}
 use mathlib.Core.Path.{_≡_, refl, sym, ap, _∙_}
 use mathlib.Core.List.{List, []}
 use lib.Dec.{ltb}
-use borrow.Author.Tests.{leb-true, ltb-true}
+use borrow.Author.Tests.{leb-true, ltb-true, not-true}
 use Rattle.layout.specs.Ceiling.{raiseEntries}
 use Rattle.layout.specs.Checks.{unless, roomFor}
 use Rattle.layout.specs.Entries.{Entry}
@@ -27,6 +27,7 @@ pub record Opens (img : List ℕ) (len : ℕ) (reply : OpenReply) (entries : Lis
 pub record Openable (img : List ℕ) (len : ℕ) : Type 0 where
   pub shaped : Shaped img
   pub room : 48 ≤ len
+  pub empty : occupiedB img (recordsOf img) (2 * sessionsOf img) ≡ false
   pub below : ceilingOf img < limit
 
 pub openable : (img : List ℕ) (len : ℕ) → openFault img len ≡ 0 → Openable img len
@@ -38,6 +39,7 @@ openable img len z =
     record {
       shaped = says-shaped img .yes (unless-zero (shapedB img) 0 (a .0));
       room = leb-true _ _ (unless-zero (roomFor len) 2 (b .0));
+      empty = not-true _ (unless-zero (not (occupiedB img (recordsOf img) (2 * sessionsOf img))) 10 (c .0));
       below = ltb-true _ _ (unless-zero (ltb (ceilingOf img) limit) 9 (c .1));
     }
 
