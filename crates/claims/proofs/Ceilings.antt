@@ -1,19 +1,23 @@
 -- Word 3 is left alone by all but opening and publish; the ceiling in numbers, by computation.
-use Prim.Native.Nat.{ℕ, zero, suc, _+_, _≤_}
+use Prim.Native.Nat.{ℕ, zero, suc, _+_, _*_, _≤_, _<_}
 use mathlib.Core.Bool.{Bool, true, false, cond, false≢true}
-use mathlib.Core.Path.{_≡_, refl, sym, _∙_}
+use mathlib.Core.Path.{_≡_, refl, sym, ap, _∙_}
+use mathlib.Core.Logic.{inl, inr, ⊎-elim}
 use mathlib.Core.List.{List, [], _∷_, _++_}
 use native.Mathlib.Omega.{arith}
 use lib.Dec.{eqb}
-use lib.ListN.{set}
+use lib.ListN.{length, getD, set, take, replicate, length-set, length-replicate}
 use lib.Seq.{getD-set-other}
+use borrow.Author.Tests.{eq-eqb}
 use Rattle.layout.specs.Below.{allBelow, anyBelow, countBelow, lowest}
 use Rattle.layout.specs.Ceiling.{passEntries}
-use Rattle.layout.specs.Checks.{first, answered}
-use Rattle.layout.specs.Entries.{Entry, store, fence, Write, stores, made, shift}
+use Rattle.layout.specs.Checks.{unless, first, answered}
+use Rattle.layout.proofs.ChecksLaws.{first-both, unless-zero, answered-zero}
+use Rattle.layout.specs.Entries.{Entry, store, fence, Write, stores, shift}
 use Rattle.layout.specs.Homes.{homesWrites}
-use Rattle.layout.specs.Image.{ceilingOf, recordsOf, placeOf, slotAt, shapedB, occupiedB}
-use Rattle.layout.specs.Lay.{layFault, laidImage}
+use Rattle.layout.specs.Image.{ceilingOf, recordsOf, inRange, sizeOf, placeOf, slotAt, shapedB, occupiedB}
+use Rattle.layout.specs.Lay.{layFault, layAnswer, emptyImage, laidImage}
+use Rattle.layout.specs.declared.laying.LayAnswer.the-variants.{Refused, Laid}
 use Rattle.layout.specs.Oldest.{oldestOf}
 use Rattle.layout.specs.Told.{isRefusal}
 use Rattle.journal.specs.Log.{countOf, recOf, wordsOf, denoted, logEntries, unsoundB, sharedB}
@@ -29,9 +33,15 @@ use Rattle.snapshot.specs.Read.{readFault, readReply}
 use Rattle.commit.specs.Finish.{finishFault, sealEntries, finishEntries}
 use Rattle.commit.specs.Settle.{settleFault, goHomeEntries, waitsB, settleEntries}
 use Rattle.commit.specs.Reclaim.{reclaimFault, noneLeft, heldB, clearEntries, reclaimEntries}
-use Rattle.claims.specs.Ceilings.{CeilingKept, Ceilings}
-use Rattle.claims.specs.Demands.{PublishStores}
+use Rattle.claims.specs.Ceilings.{Keeps, CeilingKept, Ceilings}
+use Rattle.claims.specs.Demands.{openingDue, PublishRight, PublishStores}
 use Rattle.claims.specs.Rules.{storeRules}
+use Rattle.history.specs.Layout.{view}
+use Rattle.history.specs.Log.{Clean}
+use Rattle.history.specs.Looks.{noLooks}
+use Rattle.history.proofs.Cuts.{Stored, stored-take, arrived-word, made-word}
+use Rattle.claims.proofs.CutRecovers.{clean-opens}
+use Rattle.claims.proofs.Recovering.{Whole}
 
 -- ---- on any image and desk
 
@@ -41,10 +51,18 @@ Behind [] = Unit {0}
 Behind (store i w ∷ es) = (4 ≤ i) × Behind es
 Behind (fence ∷ es) = Behind es
 
-kept : (es : List Entry) (img : List ℕ) → Behind es → ceilingOf (made es img) ≡ ceilingOf img
-kept [] img b = refl
-kept (store i w ∷ es) img b = kept es (set img i w) (b .1) ∙ getD-set-other img i 3 w 0 (λ e. omega (arith, e, b .0))
-kept (fence ∷ es) img b = kept es img b
+nowhere : (es : List Entry) (w : ℕ) → Behind es → Stored 3 w es → ⊥
+nowhere [] w b h = h
+nowhere (store i v ∷ es) w b (inl e) = omega (arith, e .0, b .0)
+nowhere (store i v ∷ es) w b (inr h) = nowhere es w (b .1) h
+nowhere (fence ∷ es) w b h = nowhere es w b h
+
+keeps : (es : List Entry) (img : List ℕ) → Behind es → Keeps es img
+keeps es img b =
+    record {
+      whole = ⊎-elim (λ e. e) (λ h. absurd (nowhere es _ b h)) (made-word es img 3);
+      cut = λ k sel. ⊎-elim (λ e. e) (λ h. absurd (nowhere es _ b (stored-take k 3 _ es h))) (arrived-word sel zero (take k es) img 3);
+    }
 
 either : (b : Bool) (xs ys : List Entry) → Behind xs → Behind ys → Behind (cond b xs ys)
 either true xs ys x y = x
@@ -96,26 +114,76 @@ replay img p =
 clear : (img : List ℕ) (d : Desk) (s : ℕ) → Behind (clearEntries img d s)
 clear img d s = (omega arith, tt)
 
+-- lay, past its checks
+module _ (n m : ℕ) (img : List ℕ) where
+  passes : layAnswer n m img ≡ Laid → layFault n m (length img) ≡ 0
+  unfolding layAnswer answered
+  passes e = go (layFault n m (length img)) e
+    where
+      go : (k : ℕ) → answered k Refused Laid ≡ Laid → k ≡ 0
+      go zero q = refl
+      go (suc k) q = cc
+
+  laid : layAnswer n m img ≡ Laid → laidImage n m img ≡ emptyImage n m
+  unfolding laidImage
+  laid e = answered-zero _ (λ k. img) (emptyImage n m) (passes e)
+
+  in-range : layAnswer n m img ≡ Laid → inRange n m ≡ true
+  unfolding layFault
+  in-range e = unless-zero (inRange n m) 13 (first-both (unless (inRange n m) 14) _ (passes e) .0)
+
+zeros : (k j : ℕ) → _≡_ {A = ℕ} (getD (replicate k 0) j 0) 0
+zeros zero j = refl
+zeros (suc k) zero = refl
+zeros (suc k) (suc j) = zeros k j
+
+empty-ceiling : (n m : ℕ) → ceilingOf (emptyImage n m) ≡ 0
+empty-ceiling n m = zeros (1 + 4 * n + 44 * m) 0
+
+empty-whole : (n m : ℕ) → inRange n m ≡ true → Whole n m (emptyImage n m)
+unfolding shapedB
+empty-whole n m r = record { shaped = rw (r, eq-eqb _ _ long) refl; records = refl; sessions = refl }
+  where
+    long : length (emptyImage n m) ≡ sizeOf n m
+    long = omega (arith, length-replicate {A = ℕ} (1 + 4 * n + 44 * m) 0)
+
+empty-clean : (n m : ℕ) → Clean (2 * m) (view n (emptyImage n m))
+empty-clean n m p l =
+    let e : slotAt n p ≡ suc (suc (suc (1 + 4 * n + 22 * p))) = omega arith in
+    ap (λ i. getD (emptyImage n m) i 0) e ∙ zeros (1 + 4 * n + 44 * m) (1 + 4 * n + 22 * p)
+
+any-shaped : (img : List ℕ) (w : ℕ) → shapedB (set img 3 w) ≡ shapedB img
+unfolding shapedB
+any-shaped img w = rw (word-stays 0 (omega arith), word-stays 1 (omega arith), word-stays 2 (omega arith), length-set img 3 w) refl
+  where
+    word-stays : (j : ℕ) → j < 3 → getD (set img 3 w) j 0 ≡ getD img j 0
+    word-stays j l = getD-set-other img 3 j w 0 (λ e. omega (arith, e, l))
+
 pub ceiling-kept : CeilingKept
 unfolding finishEntries settleEntries reclaimEntries recoverEntries
 ceiling-kept =
     record {
+      lay = λ n m img e. rw (laid n m img e) (empty-ceiling n m);
+      laid-opens = λ n m img x e.
+          rw (laid n m img e)
+          (clean-opens n m (emptyImage n m) (empty-whole n m (in-range n m img e)) (empty-clean n m) x ∙ ap openingDue (empty-ceiling n m));
+      any-shaped = any-shaped;
       finish = λ img d len s.
-          kept (finishEntries img d len s) img
+          keeps (finishEntries img d len s) img
           (unless-refused (finishFault img d len s) (cond (eqb (sessionAt d s .count) 0) [] (sealEntries d s))
           (either (eqb (sessionAt d s .count) 0) [] (sealEntries d s) tt (seal d s)));
       settle = λ img d len s.
-          kept (settleEntries img d len s) img
+          keeps (settleEntries img d len s) img
           (unless-refused (settleFault img d len s) (cond (waitsB d s) [] (goHomeEntries d s))
           (either (waitsB d s) [] (goHomeEntries d s) tt (go-home d s)));
       reclaim = λ img d len s.
           let held = cond (heldB img d s) [] (clearEntries img d s) in
-          kept (reclaimEntries img d len s) img
+          keeps (reclaimEntries img d len s) img
           (unless-refused (reclaimFault img d len s) (cond (noneLeft img d s) [] held)
           (either (noneLeft img d s) [] held tt (either (heldB img d s) [] (clearEntries img d s) tt (clear img d s))));
       recover = λ img len.
           let replayed = replayEntries img (firstLog img .place) in
-          kept (recoverEntries img len) img
+          keeps (recoverEntries img len) img
           (unless-refused (recoverFault img len) (cond (cleanB img) [] replayed)
           (either (cleanB img) [] replayed tt (replay img (firstLog img .place))));
     }
@@ -126,8 +194,14 @@ unfolding publishReply publishEntries answered
 publish-stores img d len s e = go (publishFault img d len s) e
   where
     go : (k : ℕ) → isRefusal (publishTold (answered k (publishRefused d) (published img d s) .answer)) ≡ false
-        → answered k (λ _. []) (passEntries img (d .clock + 1)) ≡ passEntries img (d .clock + 1)
-    go zero e = refl
+        → PublishRight img d (record {
+          told = publishTold (answered k (publishRefused d) (published img d s) .answer);
+          entries = answered k (λ _. []) (passEntries img (d .clock + 1));
+          count = answered k (publishRefused d) (published img d s) .entries;
+          desk = answered k (publishRefused d) (published img d s) .desk;
+          looks = noLooks;
+        })
+    go zero e = record { ends = refl; ticks = refl; stores = refl }
     go (suc k) e = absurd (false≢true (sym e))
 
 -- ---- in numbers

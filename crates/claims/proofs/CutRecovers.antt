@@ -63,7 +63,7 @@ module _ (N M : ℕ) (w : World) (a : Along N M w) (c : Call) (k : ℕ) (sel : �
 
 module _ (N M : ℕ) (img : List ℕ) (w : Whole N M img) (c : Clean (2 * M) (view N img)) where
   -- opens, with room in the trace, or is refused with 10 by its ceiling
-  clean-opens : (x : ℕ) → storeRules .opens img (48 + x) .told ≡ openingDue (ceilingOf img)
+  pub clean-opens : (x : ℕ) → storeRules .opens img (48 + x) .told ≡ openingDue (ceilingOf img)
   unfolding openReply openFault answered first occupiedB
   clean-opens x = rw (w .shaped, le-leb 48 (48 + x) (omega arith), none) (by-test (ltb (ceilingOf img) limit) (λ e. rw e refl) (λ e. rw e refl))
     where

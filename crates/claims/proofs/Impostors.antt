@@ -823,7 +823,7 @@ opens-at-clock h = eqb-false _ _ refl (ap word-of (h image 48 opens))
 -- a publish that is to raise, on a store whose ceiling is its clock
 publish-unraised : PublishStores (past 5 (relisting (λ es. []))) → ⊥
 unfolding allBelow anyBelow countBelow first answered shapedB freshB placesOk sessionOk copiesB coherentB entryFault publishFault publishEntries publishReply
-publish-unraised h = eqb-false _ _ refl (ap length (h (set (emptyImage 8 2) 3 3) (deskOf 3 oneMark (oneCopy (Sealed 1)) idleSession) 48 0 refl))
+publish-unraised h = eqb-false _ _ refl (ap length (h (set (emptyImage 8 2) 3 3) (deskOf 3 oneMark (oneCopy (Sealed 1)) idleSession) 48 0 refl .stores))
 
 publish-unfenced : ((img : List ℕ) (d : Desk) (len s : ℕ)
     → Tidy (publishFault img d len s) (unfencedAt 5 .call img d (publish len s) .count) (unfencedAt 5 .call img d (publish len s) .entries)) → ⊥

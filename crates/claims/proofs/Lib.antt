@@ -1,5 +1,4 @@
 pub mod Edges
-pub mod Ceilings
 pub mod SameLog
 pub mod Sessions
 pub mod Steady
@@ -30,5 +29,6 @@ pub mod CallsRight
 pub mod Demands
 pub mod Lives
 pub mod Fresh
+pub mod Ceilings
 pub mod Impostors
 pub mod ReelsBack

@@ -21,6 +21,7 @@ lists =
       finish-count = finish-length;
       settle-count = settle-length;
       reclaim-count = λ img d s. refl;
+      raise-count = λ clock. refl;
       recover-count = recover-length;
     }
 

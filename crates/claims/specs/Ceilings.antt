@@ -1,12 +1,15 @@
--- Document 02, Req 05: who leaves header word 3 alone, and in numbers what opening and publish do with it.
+-- Document 02, Req 05: what becomes of header word 3 on any image and desk, and in numbers what opening and publish do with it.
 use Prim.Native.Nat.{ℕ, _+_, _-_}
+use mathlib.Core.Bool.{Bool}
 use mathlib.Core.Path.{_≡_}
 use mathlib.Core.List.{List, [], _∷_}
 use lib.ListN.{set, replicate}
+use Rattle.layout.specs.Crash.{crashed}
 use Rattle.layout.specs.Entries.{Entry, store, fence, made}
-use Rattle.layout.specs.Image.{ceilingOf}
-use Rattle.layout.specs.Lay.{emptyImage, laidImage}
-use Rattle.layout.specs.Told.{Told, refusal}
+use Rattle.layout.specs.Image.{ceilingOf, shapedB}
+use Rattle.layout.specs.Lay.{emptyImage, layAnswer, laidImage}
+use Rattle.layout.specs.Told.{Told, refusal, ok}
+use Rattle.layout.specs.declared.laying.LayAnswer.the-variants.{Laid}
 use Rattle.desk.specs.Coherent.{limit}
 use Rattle.desk.specs.Desk.{idleSession}
 use Rattle.desk.specs.Publish.{publishEntries, publishReply}
@@ -23,15 +26,27 @@ use Rattle.commit.specs.Finish.{finishEntries}
 use Rattle.commit.specs.Settle.{settleEntries}
 use Rattle.commit.specs.Reclaim.{reclaimEntries}
 use Rattle.claims.specs.Edges.{withSlot, oneCopy, deskOf, oneMark}
+use Rattle.claims.specs.Rules.{storeRules}
 
 -- ---- on any image and desk
 
--- of the calls that store, these leave word 3 as it was; what opening and publish store there say OpeningStores and PublishStores
+-- the entries leave word 3 as it was, made whole or cut anywhere
+pub record Keeps (es : List Entry) (img : List ℕ) : Type 0 where
+  pub whole : ceilingOf (made es img) ≡ ceilingOf img
+  pub cut : (k : ℕ) (sel : ℕ → Bool) → ceilingOf (crashed k sel es img) ≡ ceilingOf img
+
+-- what opening and publish store there say OpeningStores and PublishStores
 pub record CeilingKept : Type 0 where
-  pub finish : (img : List ℕ) (d : Desk) (len s : ℕ) → ceilingOf (made (finishEntries img d len s) img) ≡ ceilingOf img
-  pub settle : (img : List ℕ) (d : Desk) (len s : ℕ) → ceilingOf (made (settleEntries img d len s) img) ≡ ceilingOf img
-  pub reclaim : (img : List ℕ) (d : Desk) (len s : ℕ) → ceilingOf (made (reclaimEntries img d len s) img) ≡ ceilingOf img
-  pub recover : (img : List ℕ) (len : ℕ) → ceilingOf (made (recoverEntries img len) img) ≡ ceilingOf img
+  -- lay writes 0, and what is laid opens
+  pub lay : (n m : ℕ) (img : List ℕ) → layAnswer n m img ≡ Laid → ceilingOf (laidImage n m img) ≡ 0
+  pub laid-opens : (n m : ℕ) (img : List ℕ) (x : ℕ) → layAnswer n m img ≡ Laid → storeRules .opens (laidImage n m img) (48 + x) .told ≡ ok
+  -- check 1 does not look at it
+  pub any-shaped : (img : List ℕ) (w : ℕ) → shapedB (set img 3 w) ≡ shapedB img
+  -- no other call that stores touches it
+  pub finish : (img : List ℕ) (d : Desk) (len s : ℕ) → Keeps (finishEntries img d len s) img
+  pub settle : (img : List ℕ) (d : Desk) (len s : ℕ) → Keeps (settleEntries img d len s) img
+  pub reclaim : (img : List ℕ) (d : Desk) (len s : ℕ) → Keeps (reclaimEntries img d len s) img
+  pub recover : (img : List ℕ) (len : ℕ) → Keeps (recoverEntries img len) img
 
 -- ---- in numbers
 

@@ -7,7 +7,7 @@ use lib.Dec.{ltb}
 use lib.ListN.{take, getD}
 use Rattle.layout.specs.Crash.{arrived}
 use Rattle.layout.specs.Image.{recordsOf, sessionsOf, ceilingOf, homeWords}
-use Rattle.layout.specs.Told.{Told, refusal, ok, clean, foundAt, isRefusal, is, valueOf, wordsTold, Copy, Home, None, Found}
+use Rattle.layout.specs.Told.{Told, refusal, ok, endedAt, clean, foundAt, isRefusal, is, valueOf, wordsTold, Copy, Home, None, Found}
 use Rattle.desk.specs.Coherent.{limit}
 use Rattle.desk.specs.declared.state.Desk.{Desk}
 use Rattle.history.specs.Call.{Listening, Begin, Read, Finish, Find, Call, begin, read, write, abandon, finish, publish, settle, reclaim, listen}
@@ -38,10 +38,16 @@ StoresDue R = (img : List ℕ) (len : ℕ) → R .opens img len .told ≡ ok →
 abbrev pub OpeningStores : Rules → Type 0
 OpeningStores R = (img : List ℕ) (len : ℕ) → R .opens img len .told ≡ ok → R .opens img len .entries ≡ raiseStores (ceilingOf img + 1)
 
--- a publish stores it where its new clock would pass word 3, on any image and desk, not only along a list of calls
+-- a publish ends at clock + 1, the clock becomes that, and where it would pass word 3 the new ceiling is stored
+pub record PublishRight (img : List ℕ) (d : Desk) (y : Reply) : Type 0 where
+  pub ends : y .told ≡ endedAt (d .clock + 1)
+  pub ticks : y .desk .clock ≡ d .clock + 1
+  pub stores : y .entries ≡ passStores (d .clock + 1) (ceilingOf img)
+
+-- on any image and desk that it does not refuse, not only along a list of calls
 abbrev pub PublishStores : Rules → Type 0
 PublishStores R = (img : List ℕ) (d : Desk) (len s : ℕ) → isRefusal (R .call img d (publish len s) .told) ≡ false
-    → R .call img d (publish len s) .entries ≡ passStores (d .clock + 1) (ceilingOf img)
+    → PublishRight img d (R .call img d (publish len s))
 
 -- the same records, from record 0 up, and each gives the same
 pub record SameLooks (x y : Looks) : Type 0 where

@@ -1,6 +1,6 @@
 -- Document 01, "To the testers" and "Wrong turns", and wrong readings of document 02: each impostor is the store's rules with one change, and
 -- does not meet the demand that it breaks. Every one opens as the store does, for without an opening there is no list of calls;
--- those of Req 05 list other entries in it.
+-- the openings of Req 05 list other entries.
 use Prim.Native.Nat.{ℕ, zero, suc, _+_, _-_}
 use mathlib.Core.Bool.{Bool, _&&_, _||_, not, cond}
 use mathlib.Core.List.{List, [], _∷_, _++_}

@@ -1,11 +1,11 @@
 pub mod Edges
-pub mod Ceilings
 pub mod Rules
 pub mod Run
 pub mod Recovery
 pub mod Demands
 pub mod Lives
 pub mod Fresh
+pub mod Ceilings
 pub mod Refusals
 pub mod Lists
 pub mod Impostors

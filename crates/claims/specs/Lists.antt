@@ -3,6 +3,7 @@ use Prim.Native.Nat.{ℕ, _+_, _*_}
 use mathlib.Core.Path.{_≡_}
 use mathlib.Core.List.{List}
 use lib.ListN.{length}
+use Rattle.layout.specs.Ceiling.{raiseEntries}
 use Rattle.layout.specs.Tidy.{Tidy}
 use Rattle.journal.specs.Lengths.{finishLength, settleLength, recoverLength}
 use Rattle.journal.specs.Log.{countOf}
@@ -33,6 +34,7 @@ pub record Lists : Type 0 where
   pub finish-count : (d : Desk) (s : ℕ) → length (sealEntries d s) ≡ 5 * sessionAt d s .count + 4
   pub settle-count : (d : Desk) (s : ℕ) → length (goHomeEntries d s) ≡ 4 * sessionAt d s .count + 1
   pub reclaim-count : (img : List ℕ) (d : Desk) (s : ℕ) → length (clearEntries img d s) ≡ 2
+  pub raise-count : (clock : ℕ) → length (raiseEntries clock) ≡ 2
   pub recover-count : (img : List ℕ) (p : ℕ) → length (replayEntries img p) ≡ 4 * countOf (logAt img p) + 3
 
 -- The table of document 02's Req 04, number by number: each is document 01's formula, 5c + 4, 4c + 1 or 4c + 3, for c copies.
