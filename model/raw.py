@@ -9,15 +9,17 @@ what the call must answer and leave.
 
 A case depends on the seed and its own number (from 0) alone. The cases of the
 reel library (document 02, Req 02) are made by rawreels.py, those of the
-listening room's calls (Req 03) by rawlistening.py, in the same format.
+listening room's calls (Req 03) by rawlistening.py, those of a group's publish
+(Req 06) by rawgroup.py, in the same format.
 
 INPUT. 64-bit words, lowest byte first, case after case up to the end of file:
     word  0       call: 0 lay, 1 begin, 2 read, 3 write, 4 finish, 5 publish,
                   6 settle, 7 reclaim, 8 abandon, 9 open, 10 recover; of the reel
                   library: 11 pack, 12 unpack, 13 read, 14 write, 15 length; of
-                  the listening room: 16 begin, 17 read, 18 finish, 19 find
+                  the listening room: 16 begin, 17 read, 18 finish, 19 find;
+                  20 publish of a group
     words 1, 2    N and M, for lay
-    words 3, 4    session and record
+    words 3, 4    session and record; for 20 the set in word 3, 0 to 65535
     words 5-8     the four words, for write; shelf, carrier, speed and seconds,
                   for 11 and 14; the record's words, for 12 and 15; for 19
                   the shelf number in word 5
@@ -52,7 +54,7 @@ speed, seconds); unused fields are 0. Entries is their number; they stand at
 the front of the trace. The digests are of what the call leaves, refused or
 not; 0 where the call takes no such part (lay: image alone; begin, abandon,
 16: desk alone; open: image, trace and the desk it gives; read, write, 13, 14,
-17, 19: image and desk; finish, publish, settle, reclaim, 18: all three;
+17, 19: image and desk; finish, publish, settle, reclaim, 18, 20: all three;
 recover: image and trace; 11, 12, 15: none).
 
 DIGEST of k words: d = k at first, then for each word w, with its parts
@@ -79,12 +81,13 @@ STORE_CALLS = ["lay", "begin", "read", "write", "finish", "publish", "settle",
                "reclaim", "abandon", "open", "recover"]
 REEL_CALLS = ["pack", "unpack", "read reel", "write reel", "length"]
 LISTENING_CALLS = ["begin listening", "read listening", "finish listening", "find"]
-CALLS = STORE_CALLS + REEL_CALLS + LISTENING_CALLS
+GROUP_CALL = "publish group"
+CALLS = STORE_CALLS + REEL_CALLS + LISTENING_CALLS + [GROUP_CALL]
 PHASES = ["idle", "active", "sealed", "published"]
 ANSWERS = ["ok", "start", "own", "copy", "home", "empty", "sealed", "end", "wait",
            "none", "held", "cleared", "clean", "replayed", "reel", "unused", "unknown", "metres",
            "found"]
-# Of the store's calls; for those of the libraries see like().
+# Of the store's single calls; for the others see like().
 WITH_DESK = STORE_CALLS[1:9]
 WITH_IMAGE = [c for c in STORE_CALLS if c not in ("begin", "abandon")]
 WITH_TRACE = ["finish", "publish", "settle", "reclaim", "open", "recover"]
@@ -94,8 +97,9 @@ WITH_RECORD = ["read", "write"]
 # ---- running and encoding a case -----------------------------------------
 
 def like(call):
-    """The store's call that takes the same parts: read for "read reel". A find takes those of a read, but
-    no record. Pack, unpack and length are like none of the store's."""
+    """The store's single call that takes the same parts: read for "read reel". A find takes those of a read,
+    but no record; "publish group" takes those of a publish, but a set in the session's place. Pack, unpack
+    and length are like none of the store's."""
     return "read" if call == "find" else call.split()[0]
 
 
@@ -118,6 +122,8 @@ def run(case, library=None):
         return model.recover(image, trace)
     if call == "find":
         return model.find(image, desk, session, case["words"][0])
+    if call == GROUP_CALL:
+        return model.publish_group(image, desk, trace, session)
     if name == "read":
         return model.read(image, desk, session, case["record"])
     if name == "write":
@@ -1043,8 +1049,8 @@ def count(cases):
 
 
 def main(words, make, usage, first=0):
-    """The commands of raw.py, and with other cases, numbered from first on, those of rawreels.py and
-    rawlistening.py."""
+    """The commands of raw.py, and with other cases, numbered from first on, those of rawreels.py,
+    rawlistening.py and rawgroup.py."""
     if len(words) != 3 or words[0] not in ("in", "packed", "want", "count", "show"):
         sys.exit(usage)
     seed, number = int(words[1]), int(words[2])

@@ -1,4 +1,4 @@
-"""Reference model of the two-copy record store (document 01, and Req 01 and Req 05 of document 02).
+"""Reference model of the two-copy record store (document 01, and Req 01, Req 05 and Req 06 of document 02).
 
 An image is a list of 64-bit words, a desk is a dictionary, a trace (the document's strip) is given
 by its length in words. No call alters what it is given. Each call returns a
@@ -445,6 +445,42 @@ def publish(image, desk, trace, session):
     entries = raised(end) if end > ceiling(image) else []
     return result(said("end", end), dict(with_phase(desk, session, "published", end), clock=end),
                   image, entries)
+
+
+def publish_group(image, desk, trace, members):
+    """Publishes each session of the set with the same end; clock and word 3 go as
+    in publish (document 02, Req 06)."""
+    sessions = in_set(members)
+    refusal = group_turned_away(image, desk, trace, sessions)
+    if refusal:
+        return result(refusal, desk, image)
+    clock = desk["clock"] + 1
+    entries = raised(clock) if clock > ceiling(image) else []
+    for session in sessions:
+        desk = with_phase(desk, session, "published", clock)
+    return result(said("end", clock), dict(desk, clock=clock), image, entries)
+
+
+def in_set(members):
+    """The sessions of a 16-bit set: bit s, worth 2 to the s, stands for session s."""
+    return [session for session in range(16) if members & 2 ** session]
+
+
+def group_turned_away(image, desk, trace, sessions):
+    """The refusal of a group, or None: checks 1, 2, 3, 19 right after 3, 4, 6."""
+    if not image_right(image):
+        return no(1)
+    if not coherent(desk, image):
+        return no(2)
+    if trace < TRACE_WORDS:
+        return no(3)
+    if not sessions:  # empty set
+        return no(19)
+    if any(session >= desk["M"] for session in sessions):
+        return no(4)
+    if any(desk["sessions"][session]["phase"] != "sealed" for session in sessions):
+        return no(6)
+    return None
 
 
 def settle(image, desk, trace, session):

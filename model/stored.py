@@ -15,6 +15,7 @@ HERE = os.path.dirname(os.path.abspath(__file__))
 sys.path.insert(0, HERE)
 
 import raw  # noqa: E402
+import rawgroup  # noqa: E402
 import rawlistening  # noqa: E402
 import rawreels  # noqa: E402
 import reelwalk  # noqa: E402
@@ -24,9 +25,9 @@ CRATES = os.path.join(HERE, "..", "crates")
 SEEDS = {kind: 14 for kind in streams.KINDS}
 SEEDS.update({"long": 6, "ceiling": 4, "openings": 6, "cuts_publish": 6})
 RAW_SEED = 1
-# What makes the raw cases, each from this number on; of the last two it is one round.
-RAW_MAKERS = [(0, raw), (rawreels.FIRST, rawreels), (rawlistening.FIRST, rawlistening)]
-RAW_CASES = rawlistening.FIRST + len(rawlistening.TURNS)
+# What makes the raw cases, each from this number on; of all but the first it is one round.
+RAW_MAKERS = [(0, raw), (rawreels.FIRST, rawreels), (rawlistening.FIRST, rawlistening), (rawgroup.FIRST, rawgroup)]
+RAW_CASES = rawgroup.FIRST + len(rawgroup.TURNS)
 
 
 def schedule(kind_and_seed):

@@ -16,6 +16,7 @@ from collections import Counter
 
 import listening
 import raw
+import rawgroup
 import rawlistening
 import rawreels
 import reels
@@ -43,7 +44,16 @@ def answer_of(done):
     return (answer["number"] or answer["name"], answer["value"])
 
 
+def sessions_in(members):
+    """The sessions of a set; the last digit of its sixteen is session 0."""
+    return [session for session, bit in enumerate(reversed(format(members, "016b"))) if bit == "1"]
+
+
 # ---- the book ------------------------------------------------------------
+
+GROUP = raw.GROUP_CALL
+PUBLISHES = ["publish", GROUP]  # of a group the set stands for the session
+
 
 class Book:
     """Fed each call with its answer; it never sees an image or a desk."""
@@ -62,9 +72,10 @@ class Book:
             self.drafts[session][record] = list(words)
         elif call == "finish" and name == "sealed":
             self.seal(session)
-        elif call == "publish" and name == "end":
-            last = [e for e in self.list if e["session"] == session][-1]
-            last["end"] = answer["value"]
+        elif call in PUBLISHES and name == "end":
+            for member in [session] if call == "publish" else sessions_in(session):
+                last = [e for e in self.list if e["session"] == member][-1]
+                last["end"] = answer["value"]
         elif (call == "abandon" and name == "ok") or answer["number"] == 7:
             self.drafts[session] = {}
 
@@ -87,13 +98,21 @@ class Book:
         return found[-1] if found else self.opening[record]
 
     def view(self, session):
-        """The opening records with all transactions published by the start
-        applied, in the order of their ends, and own writes on top."""
+        """The opening records with all transactions with end at most the start
+        applied, in sealing order, and own writes on top."""
         now = [list(words) for words in self.opening]
-        published = [e for e in self.list if e["end"] and e["end"] <= self.starts[session]]
-        for draft in [e["draft"] for e in sorted(published, key=lambda e: e["end"])]:
-            now = [draft.get(record, words) for record, words in enumerate(now)]
+        for e in self.list:
+            if e["end"] is not None and e["end"] <= self.starts[session]:
+                now = [e["draft"].get(record, words) for record, words in enumerate(now)]
         return [self.drafts[session].get(record, words) for record, words in enumerate(now)]
+
+    def together(self):
+        """The drafts of each end, in sealing order."""
+        found = {}
+        for e in self.list:
+            if e["end"] is not None:
+                found.setdefault(e["end"], []).append(e["draft"])
+        return found
 
 
 # ---- answers foreseen without image or desk ------------------------------
@@ -113,7 +132,10 @@ class Foresight:
         self.logs = {}                               # place: persist number
 
     def refusal(self, call, session, record):
-        """The first of 4, 5 and 6 that refuses a call, or 0."""
+        """The first of 19, 4, 5 and 6 that refuses a call, or 0."""
+        if call == GROUP:
+            phases = [(self.phase + [None] * 16)[member] for member in sessions_in(session)]
+            return 19 if not phases else 4 if None in phases else 0 if set(phases) == {"sealed"} else 6
         if session >= self.m:
             return 4
         if call in ("read", "write") and record >= self.n:
@@ -123,7 +145,7 @@ class Foresight:
     def step(self, call, session, record):
         """(name or refusal number, value, number of entries) of a call."""
         number = self.refusal(call, session, record)
-        return (number, 0, 0) if number else getattr(self, call)(session, record)
+        return (number, 0, 0) if number else getattr(self, call.replace(" ", "_"))(session, record)
 
     def holder(self, record):
         return [s for s in range(self.m) if record in self.mine[s]]
@@ -175,8 +197,12 @@ class Foresight:
         return ("sealed", self.clock, 5 * copies + 4)
 
     def publish(self, session, record):
+        return self.publish_group(2 ** session, record)
+
+    def publish_group(self, members, record):
         self.clock += 1
-        self.phase[session], self.at[session] = "published", self.clock
+        for session in sessions_in(members):
+            self.phase[session], self.at[session] = "published", self.clock
         if self.clock <= self.ceiling:
             return ("end", self.clock, 0)
         self.ceiling = self.clock + 1024
@@ -218,6 +244,7 @@ class Trial:
         self.image = self.scribbled(done["image"])
         self.image[3] = rng.choice([0, 0, 1025, rng.randrange(10 ** 6)]) if word_3 is None else word_3
         self.lazy = rng.random()  # how seldom logs are reclaimed
+        self.groups, self.waits = rng.choice([0, 0.5, 0.9]), 0.8  # how often a publish is not single, and waits
         self.opened()
 
     def scribbled(self, image):
@@ -253,6 +280,23 @@ class Trial:
         return [image[4 + 4 * r:8 + 4 * r] for r in range(self.n)]
 
     def choose(self):
+        """A call of one session, or of a group: then the set stands for the session."""
+        call, session, record, words = self.choose_one()
+        if call != "publish" or self.rng.random() >= self.groups:
+            return call, session, record, words
+        if self.rng.random() < self.waits:  # until others are sealed
+            return self.choose()
+        return GROUP, self.van_load(), record, words
+
+    def van_load(self):
+        """A set of sealed sessions; at times with any one put in or taken out, at times any set."""
+        rng = self.rng
+        members = {s for s in range(self.m) if self.foresight.phase[s] == "sealed" and rng.random() < 0.8}
+        if rng.random() < 0.1:
+            members ^= {rng.randrange(rng.choice([self.m, 16]))}
+        return rng.getrandbits(16) if rng.random() < 0.02 else sum(2 ** s for s in members)
+
+    def choose_one(self):
         """A call that mostly suits the phase: (call, session, record, words)."""
         rng = self.rng
         session = rng.randrange(self.m)
@@ -280,7 +324,7 @@ class Trial:
             return st.read(self.image, self.desk, session, record)
         if call == "write":
             return st.write(self.image, self.desk, session, record, words)
-        return getattr(st, call)(self.image, self.desk, 48, session)
+        return getattr(st, call.replace(" ", "_"))(self.image, self.desk, 48, session)
 
     def take(self, step, done):
         """Takes over desk and image and feeds the book and the memory."""
@@ -378,7 +422,7 @@ def edges(st):
         image[4 + 8 + 44 + 1] = 5
         same(answer_of(st.recover(image, 48)), wanted, "M, N")
     # Trace of 47 words: 3. Session and record both too large: 4.
-    for call in (st.finish, st.publish, st.settle, st.reclaim):
+    for call in (st.finish, st.publish, st.publish_group, st.settle, st.reclaim):
         same(answer_of(call(laid(st), st.new_desk(1, 2, 2), 47, 9)), (3, 0), "trace")
     same(answer_of(st.recover(laid(st), 47)), (3, 0), "trace")
     same(answer_of(st.open_image(laid(st), 47)), (3, 0), "trace")
@@ -487,7 +531,7 @@ def program_lines(st):
 
 def answers(st):
     """Every answer of random schedules foreseen; shape of the entries."""
-    waits = above = raises = past = 0  # above: a session below the one named is in the way too
+    waits = above = raises = past = loads = 0  # above: a session below the one named is in the way too
     for run in range(int(350 * SHARE)):
         rng = random.Random("answers/%d" % run)
         big = run % 10 == 9  # with few sessions or few steps settle seldom has a choice
@@ -501,7 +545,8 @@ def answers(st):
             same(done["image"][3], trial.foresight.ceiling, "word 3 after %s in run %d" % (step[0], run))
             check_shape(st, trial, step, done)
             trial.take(step, done)
-            raises += step[0] == "publish" and wanted[2] == 2
+            raises += step[0] in PUBLISHES and wanted[2] == 2
+            loads += step[0] == GROUP and wanted[0] == "end" and len(sessions_in(step[1])) > 1
             past += wanted[0] == 10 or (wanted[0] == "end" and wanted[1] >= L)
             if wanted[0] == "wait":
                 waits += 1
@@ -509,9 +554,10 @@ def answers(st):
                 above += any(phase[s] == "active" and at[s] < at[step[1]] for s in range(wanted[1]))
     if above < 100 * SHARE:
         raise AssertionError("too few waits for another than the lowest: %d of %d" % (above, waits))
-    if min(raises, past) < 50 * SHARE:
-        raise AssertionError("too few raises or answers at L: %d, %d" % (raises, past))
-    return "wait %d, for another than the lowest in the way %d, raises of word 3 %d" % (waits, above, raises)
+    if min(raises, past, loads) < 50 * SHARE:
+        raise AssertionError("too few raises, answers at L or groups: %d, %d, %d" % (raises, past, loads))
+    return "wait %d, for another than the lowest in the way %d, raises of word 3 %d, groups of two or more %d" % (
+        waits, above, raises, loads)
 
 
 def check_shape(st, trial, step, done):
@@ -533,7 +579,7 @@ def check_shape(st, trial, step, done):
 
 def reads(st):
     """Demand 2: reads give what the book says, in both wordings."""
-    seen = {"own": 0, "copy": 0, "home": 0}
+    seen, loads = {"own": 0, "copy": 0, "home": 0}, 0
     for run in range(int(350 * SHARE)):
         trial = Trial(st, random.Random("reads/%d" % run))
         for _ in range(120):
@@ -547,11 +593,12 @@ def reads(st):
                 if name != "own":
                     same(words, book.shared(session, record), "%s words in run %d" % (name, run))
                 same(words, book.view(session)[record], "view in run %d" % run)
+            loads += step[0] == GROUP and name == "end"
             trial.foresight.step(*step[:3])
             trial.take(step, done)
-    if min(seen.values()) < 100 * SHARE:
-        raise AssertionError("too few reads of a kind: %s" % seen)
-    return "own %(own)d, copy %(copy)d, home %(home)d" % seen
+    if min(*seen.values(), loads) < 100 * SHARE:
+        raise AssertionError("too few reads of a kind or groups: %s, %d" % (seen, loads))
+    return "own %(own)d, copy %(copy)d, home %(home)d" % seen + ", groups %d" % loads
 
 
 class Memory:
@@ -757,13 +804,14 @@ def ceiling_calls(st, clock):
     yield image, st.finish, (desk, 48, 0), "empty"
     yield image, st.finish, (desk, 48, 1), "sealed" if clock < L else 10
     yield image, st.publish, (desk, 48, 2), "end"
+    yield image, st.publish_group, (desk, 48, 2 ** 2), "end"
     yield image, st.settle, (desk, 48, 3), "wait"
     yield image, st.reclaim, (desk, 48, 1), "none"
 
 
 def ceiling_coherence(st):
     """Each call that takes an image finds a desk with a clock above word 3 not coherent; begin and abandon
-    take none. Of the others only open and publish store into word 3."""
+    take none. Of the others only open and the two publishes store into word 3."""
     for clock in (2, 9, 1026, L - 1, L, L + 15):
         for image, call, rest, wanted in ceiling_calls(st, clock):
             desk, what = rest[0], "%s with clock %d, word 3 at " % (call.__name__, clock)
@@ -773,7 +821,7 @@ def ceiling_coherence(st):
                 same(answer_of(done)[0], 2 if word_3 < clock else wanted, what + "%d" % word_3)
                 if word_3 < clock:
                     same((done["desk"], done["image"], done["entries"]), (desk, given, []), "refused with 2")
-                elif call.__name__ != "publish":
+                elif not call.__name__.startswith("publish"):
                     same(done["image"][3], word_3, "word 3 left by " + what + "%d" % word_3)
     desk = st.begin(st.new_desk(9, 2, 2), 0)
     same((answer_of(desk), answer_of(st.abandon(desk["desk"], 0))), (("start", 9), ("ok", 0)), "begin and abandon")
@@ -809,7 +857,8 @@ def lives(st):
                 seen["used up"] += 1
                 break
             trial.opened()
-    wanted = {"cut in a raise": 60, "cut in another call": 60, "cut in open": 60, "used up": 6}
+    wanted = {"cut in a raise": 60, "cut in a group's raise": 20, "cut in another call": 60, "cut in open": 60,
+              "used up": 6}
     few = [name for name, least in wanted.items() if seen[name] < least * SHARE]
     same(few, [], "too few of")
     return ", ".join("%s %d" % part for part in sorted(seen.items()))
@@ -821,10 +870,10 @@ def life(trial, rng, given):
     for _ in range(rng.randrange(5, 60)):
         step = trial.choose()
         done = trial.made(*step)
-        if at_raise and step[0] == "publish" and done["entries"]:
+        if at_raise and step[0] in PUBLISHES and done["entries"]:
             trial.memory.take(done["entries"][:rng.randrange(3)])
             trial.image = trial.memory.cut(rng)
-            return "a raise"
+            return "a raise" if step[0] == "publish" else "a group's raise"
         trial.foresight.step(*step[:3])
         trial.take(step, done)
         if done["answer"]["name"] in ("start", "end"):
@@ -934,6 +983,293 @@ def walk_cuts(rw):
         same(rw.run(streams.stream(kind, seed)), reelwalk.run(streams.stream(kind, seed)), "lines")
 
 
+# ---- a van load (document 02, Req 06) --------------------------------------
+
+def published(desk, sessions, end):
+    """The desk with these sessions published with this end and the clock at it; all else is as it was."""
+    entries = [dict(e, phase="published", number=end) if session in sessions else e
+               for session, e in enumerate(desk["sessions"])]
+    return dict(desk, sessions=entries, clock=end)
+
+
+def mixed(st, phases, clock=9, word_3=2 ** 63):
+    """Image and desk with sessions in these phases, from 0 up; session s copies records s and 31 - s, a reader
+    is active without copies. Persist numbers fall."""
+    desk = st.new_desk(clock, 32, len(phases))
+    for session, phase in enumerate(phases):
+        copies = [[session, [session, 2, 3, 4]], [31 - session, [5] * 4]] if phase not in ("idle", "reader") else []
+        if phase != "idle":
+            name, number = ("active", 1) if phase in ("reader", "writer") else (phase, max(2, clock - session))
+            desk["sessions"][session] = st.entry(name, number, copies, session % 2 if copies else 0)
+        for record, _ in copies:
+            desk["marks"][record] = session
+    return laid(st, 32, len(phases), word_3), desk
+
+
+PHASES = ["sealed", "idle", "reader", "writer", "published", "sealed"]
+
+
+def group_sets(st):
+    """Bit s stands for session s: its members have one end, the clock is that, all others are left. Of a set that
+    is refused, by 19, 4 or 6, nobody is published."""
+    image, desk = sealed_scene(st, 9, 10, 16)
+    sets = [2 ** s for s in range(16)] + [65535 - 2 ** s for s in range(16)] + [65535]
+    sets += [2 ** a + 2 ** b for a, b in itertools.combinations(range(16), 2)]
+    sets += random.Random("sets").sample(range(1, 65536), int(400 * SHARE))
+    for members in sets:
+        done = st.publish_group(image, desk, 48, members)
+        same(told(done), ("end", 10, ZEROS), "set %d" % members)
+        left(done, image, published(desk, sessions_in(members), 10), "set %d" % members)
+    image, desk = mixed(st, PHASES)
+    for sessions in subsets([0, 1, 2, 3, 4, 5, 6, 7, 15]):
+        past, other = any(s > 5 for s in sessions), any(s not in (0, 5) for s in sessions)
+        wanted = 19 if not sessions else 4 if past else 6 if other else "end"
+        done = st.publish_group(image, desk, 48, sum(2 ** s for s in sessions))
+        same(told(done), (wanted, 10 if wanted == "end" else 0, ZEROS), "set of %s" % sessions)
+        left(done, image, published(desk, sessions, 10) if wanted == "end" else desk, "set of %s" % sessions)
+    for m in range(1, 17):
+        image, desk = sealed_scene(st, 9, 10, m, 16, m)
+        for members, wanted in ((2 ** m - 1, "end"), (65535, 4 if m < 16 else "end"), (2 ** (m - 1), "end")):
+            same(answer_of(st.publish_group(image, desk, 48, members))[0], wanted, "%d of %d" % (members, m))
+
+
+def group_orders(st):
+    """The checks are 1, 2, 3, 19, 4, 6, in this order, and no other; all is left."""
+    for wrong, how in itertools.product(subsets([1, 2, 3, 19, 4, 6]), ("ceiling", "clock", "rest")):
+        if 19 in wrong and {4, 6} & set(wrong):
+            continue  # an empty set has no members
+        image, desk = mixed(st, PHASES, 9, 8 if 2 in wrong and how == "ceiling" else 9)
+        desk = dict(desk, clock=0) if 2 in wrong and how == "clock" else desk
+        if 2 in wrong and how == "rest":  # a session past M is sealed, and at 4 it is in the set
+            desk = st.with_entry(desk, 7, st.entry("sealed", 1, [[12, [0] * 4]]))
+            desk["marks"][12] = 7
+        members = 0 if 19 in wrong else 33 + (128 if 4 in wrong else 0) + (8 if 6 in wrong else 0)
+        image = image[:-1] if 1 in wrong else image
+        done = st.publish_group(image, desk, 47 if 3 in wrong else 48, members)
+        same(told(done), (wrong[0], 0, ZEROS) if wrong else ("end", 10, ZEROS), "group with %s" % wrong)
+        if wrong:
+            left(done, image, desk, "group refused with %d" % wrong[0])
+    for trace, (members, wanted) in itertools.product(range(65), ((0, 19), (1, "end"), (33, "end"), (3, 6), (65, 4))):
+        for word_3 in (9, 10):  # also where there are no entries
+            got = answer_of(st.publish_group(*mixed(st, PHASES, 9, word_3), trace, members))[0]
+            same(got, 3 if trace < 48 else wanted, "set %d, trace of %d" % (members, trace))
+
+
+def group_raises(st):
+    """Publish's raise, once for all members: two entries when the new clock passes word 3, else none."""
+    rows = [(clock, clock + more, 16) for clock in (1, 2, 1025, L - 1026, L - 1025, L - 1, L)
+            for more in (0, 1, 2, 1023, 1024, 1025)]
+    rows += [(clock, word_3, 16) for clock in (1, 9, L) for word_3 in (L, L + 1, 2 ** 63, TOP)]
+    rows += [(L + 16 - sealed, L + 16 - sealed + more, sealed) for sealed in range(1, 17) for more in (0, 1)]
+    for (clock, word_3, sealed), size in itertools.product(rows, (1, 2, 15, 16)):
+        members = range(sealed)[-size:]
+        what = "group of %d with clock %d, word 3 at %d" % (len(members), clock, word_3)
+        image, desk = sealed_scene(st, clock, word_3, sealed)
+        done = st.publish_group(image, desk, 48, sum(2 ** s for s in members))
+        same(told(done), ("end", clock + 1, ZEROS), what)
+        if clock + 1 > word_3:
+            stored_alone(done, image, 3, clock + 1025, what)
+            same(done["desk"], published(desk, members, clock + 1), "desk after " + what)
+        else:
+            left(done, image, published(desk, members, clock + 1), what)
+        same(st.broken_rules(done["desk"], done["image"]), [], "rules broken after " + what)
+
+
+def group_singles(st):
+    """A group of one does what publish does: answer, desk, image and entries, accepted or refused."""
+    seen = Counter()
+    for run in range(int(700 * SHARE)):
+        rng = random.Random("singles/%d" % run)
+        case = raw.session_scene(rng, "publish")
+        sealed = [s for s, e in enumerate(case["desk"]["sessions"]) if e["phase"] == "sealed"]
+        if sealed and rng.random() < 0.6:
+            case["session"] = rng.choice(sealed)
+        if rng.random() < 0.3:
+            case = raw.with_ceiling(case, case["desk"]["clock"])
+        for number in [k for k in (4, 3, 2, 1) if rng.random() < 0.15]:
+            if number != 4:
+                raw.spoil(rng, case, number)
+            elif case["desk"]["M"] < 16:
+                case["session"] = rng.randrange(case["desk"]["M"], 16)
+        given = (case["image"], case["desk"], case["trace"])
+        done = st.publish(*given, case["session"])
+        same(st.publish_group(*given, 2 ** case["session"]), done, "group of one in run %d" % run)
+        seen[answer_of(done)[0], len(done["entries"])] += 1
+    wanted = [("end", 0), ("end", 2), (1, 0), (2, 0), (3, 0), (4, 0), (6, 0)]
+    same([key for key in wanted if seen[key] < 20 * SHARE], [], "too few of")
+    return ", ".join("%s with %d entries %d" % (*key, seen[key]) for key in wanted)
+
+
+def loaded(st, m, writers, word_3=0):
+    """An opened image with M sessions and 16 records: these have sealed a copy of the record of their number."""
+    done = st.open_image(laid(st, 16, m, word_3), 48)
+    image, desk = done["image"], done["desk"]
+    for session in writers:
+        desk = st.begin(desk, session)["desk"]
+        desk = st.write(image, desk, session, session, [session + 50] * 4)["desk"]
+        done = st.finish(image, desk, 48, session)
+        image, desk = done["image"], done["desk"]
+    return image, desk
+
+
+def seen_by(st, image, desk, session):
+    """By record, where a session is shown it from, and whether its words are the new ones."""
+    answers = [st.read(image, desk, session, record)["answer"] for record in range(16)]
+    return [(a["name"], a["words"] == [record + 50] * 4) for record, a in enumerate(answers)]
+
+
+def group_moment(st):
+    """A group is seen whole by those who begin after it, and not at all by those before it."""
+    new, old = ("copy", True), ("home", False)
+    image, desk = loaded(st, 16, range(15))
+    desk = st.begin(desk, 15)["desk"]
+    done = st.publish_group(image, desk, 48, 2 ** 14 - 1)  # session 14 is sealed and stays so
+    same(told(done), ("end", 2, ZEROS), "fourteen sessions")
+    same(seen_by(st, done["image"], done["desk"], 15), [old] * 16, "begun before it")
+    for session in range(14):  # each settles by itself, and waits for a reader that began before
+        same(answer_of(st.settle(done["image"], done["desk"], 48, session)), ("wait", 15), "settle")
+    image, desk = done["image"], st.begin(st.abandon(done["desk"], 15)["desk"], 15)["desk"]
+    same(seen_by(st, image, desk, 15), [new] * 14 + [old] * 2, "begun after it")
+    for session in (13, 0, 7):
+        done = st.settle(image, desk, 48, session)
+        same(answer_of(done), ("ok", 0), "settle with a reader that began after")
+        image, desk = done["image"], done["desk"]
+    wanted = [("home", True) if record in (13, 0, 7) else new for record in range(14)]
+    same(seen_by(st, image, desk, 15), wanted + [old] * 2, "some settled")
+    done = st.publish_group(image, desk, 48, 2 ** 14)
+    same(told(done), ("end", 3, ZEROS), "the next")
+    same(answer_of(st.publish_group(image, desk, 48, 2 ** 14 + 2)), (6, 0), "one that is published already")
+    image, desk = loaded(st, 16, reversed(range(16)))  # up to sixteen sessions
+    done = st.publish_group(image, desk, 48, 65535)
+    same(told(done), ("end", 2, ZEROS), "sixteen sessions")
+    done = st.settle(done["image"], done["desk"], 48, 9)
+    image, desk = done["image"], st.begin(done["desk"], 9)["desk"]
+    same(seen_by(st, image, desk, 9), [("home", True) if r == 9 else new for r in range(16)], "all sixteen")
+
+
+def group_cuts(st):
+    """A cut in a group's raise, with nothing to all of its entries made and word 3 arrived or not: every member
+    is replayed, and the next opening starts above 1,025, or above the raise if it has arrived."""
+    for members, made, torn in itertools.product((65535, 7, 32768), range(3), (False, True)):
+        image, desk = loaded(st, 16, range(16))
+        desk = dict(desk, clock=1025)
+        done = st.publish_group(image, desk, 48, members)
+        same((told(done), len(done["entries"])), (("end", 1026, ZEROS), 2), "a raise")
+        image = st.made(image, st.arrived(done["entries"], made, lambda entry: torn))
+        for _ in range(16):
+            again = st.recover(image, 48)
+            same(answer_of(again), ("replayed", 1), "recover")
+            image = again["image"]
+        same(answer_of(st.recover(image, 48)), ("clean", 0), "recover")
+        same([image[4 + 4 * r] for r in range(16)], [50 + r for r in range(16)], "records")
+        start = 2051 if made == 2 or (made == 1 and torn) else 1026
+        same(st.open_image(image, 48)["desk"]["clock"], start, "clock of the opening after %d entries" % made)
+
+
+class GroupTrial(Trial):
+    """A trial with many sessions, most of them published in groups, and soon sealed but not soon settled."""
+
+    def __init__(self, st, rng):
+        m = rng.choice([2, 4, 7, 12, 15, 16])
+        super().__init__(st, rng, rng.randrange(m, 4 * m), m)
+        self.groups, self.waits, self.lazy = 0.95, rng.choice([0.5, 0.8, 0.9]), 0.7
+
+    def choose_one(self):
+        call, session, record, words = super().choose_one()
+        if call == "settle" and self.rng.random() < 0.5:
+            return self.choose_one()
+        if call in ("write", "finish") and session < self.m and self.rng.random() < 0.8:
+            call = "finish" if self.foresight.mine[session] else "write"
+        copied = [record for s in range(self.m) if self.foresight.phase[s] == "published"
+                  for record in self.foresight.mine[s]]
+        if call == "read" and copied and self.rng.random() < 0.7:
+            record = self.rng.choice(copied)
+        return call, session, record, words
+
+
+def overlaps(book):
+    """The records that two transactions with one end have both."""
+    return [record for drafts in book.together().values() for record, times in Counter(
+        record for draft in drafts for record in draft).items() if times > 1]
+
+
+def group_ends(st):
+    """The members of a group share an end; no record is in two drafts of one end."""
+    shared = 0
+    for run in range(int(40 * SHARE)):
+        trial = GroupTrial(st, random.Random("ends/%d" % run))
+        for _ in range(150):
+            step = trial.choose()
+            done = trial.made(*step)
+            trial.foresight.step(*step[:3])
+            trial.take(step, done)
+        same(overlaps(trial.book), [], "records of one end in run %d" % run)
+        shared += sum(len(drafts) > 1 for drafts in trial.book.together().values())
+    if shared < 40 * SHARE:
+        raise AssertionError("too few shared ends: %d" % shared)
+    return "%d ends shared" % shared
+
+
+def group_step(st, trial, seen, what):
+    """One call: its answer as foreseen, its words as the book says, in both wordings."""
+    step = trial.choose()
+    done = trial.made(*step)
+    call, session, record, _ = step
+    answer, words = answer_of(done), done["answer"]["words"]
+    same((*answer, len(done["entries"])), trial.foresight.step(*step[:3]), "%s %s" % (call, what))
+    check_shape(st, trial, step, done)
+    if answer[0] in ("copy", "home"):
+        same(words, trial.book.shared(session, record), "words of %s %s" % (answer[0], what))
+        same(words, trial.book.view(session)[record], "view %s" % what)
+        ends = [e["end"] for e in trial.book.list if record in e["draft"]]
+        seen["copy of a shared end"] += answer[0] == "copy" and len(trial.book.together()[ends[-1]]) > 1
+    if call == GROUP:
+        size = len(sessions_in(session))
+        seen["group %s" % answer[0]] += 1
+        seen["members"] += size if answer[0] == "end" else 0
+        seen["group of four or more"] += answer[0] == "end" and size > 3
+    return step, done
+
+
+def group_life(st, trial, rng, given, seen, what):
+    """The calls of one opening up to the cut, mostly in a group's raise where there is one."""
+    for _ in range(rng.randrange(20, 130)):
+        word_3 = trial.image[3]
+        step, done = group_step(st, trial, seen, what)
+        if step[0] == GROUP and done["entries"] and rng.random() < 0.7:
+            trial.memory.take(done["entries"][:rng.randrange(3)])
+            trial.image = trial.memory.cut(rng)
+            seen["cut in a group's raise"] += 1
+            seen["word 3 kept"] += trial.image[3] == word_3
+            return
+        trial.take(step, done)
+        if done["answer"]["name"] in ("start", "end"):
+            given.add(done["answer"]["value"])
+    cut_call(trial, rng)
+
+
+def group_runs(st):
+    """Demands 2 and 3 with many groups: answers, words, the records after a cut; no number comes back in later
+    lives."""
+    seen = Counter()
+    for run in range(int(50 * SHARE)):
+        rng, what = random.Random("groups/%d" % run), "in run %d" % run
+        trial, earlier = GroupTrial(st, rng), set()
+        for _ in range(4):
+            given = set(trial.passed)
+            group_life(st, trial, rng, given, seen, what)
+            same(sorted(given & earlier), [], "numbers given again " + what)
+            earlier |= given
+            recovered(st, trial, rng, run)
+            same(trial.homes(), trial.book.records(), "records " + what)
+            trial.opened()
+    wanted = {"group end": 200, "group 19": 20, "group 4": 5, "group 6": 8, "group of four or more": 30,
+              "copy of a shared end": 50, "cut in a group's raise": 15, "word 3 kept": 6}
+    few = [name for name, least in wanted.items() if seen[name] < least * SHARE]
+    same(few, [], "too few of")
+    return ", ".join("%s %d" % part for part in sorted(seen.items()))
+
+
 # ---- raw cases -----------------------------------------------------------
 
 def case_read(words):
@@ -1021,15 +1357,13 @@ def ceiling_round():
 
 
 def ceiling_left(case, answer):
-    """Desk and entries that an open or publish must give, found without the store's calls."""
-    word_3, desk = case["image"][3], case["desk"]
+    """Desk and entries that an open or a publish must give, found without the store's calls."""
+    call, word_3, desk = case["call"], case["image"][3], case["desk"]
     if answer == "ok":
         clock = word_3 + 1
         return store.new_desk(clock, *case["image"][1:3]), [(3, clock + 1024), FENCE]
-    end = desk["clock"] + 1
-    sessions = [dict(e, phase="published", number=end) if session == case["session"] else e
-                for session, e in enumerate(desk["sessions"])]
-    return dict(desk, sessions=sessions, clock=end), [(3, end + 1024), FENCE] if end == word_3 + 1 else []
+    end, members = desk["clock"] + 1, sessions_in(case["session"]) if call == GROUP else [case["session"]]
+    return published(desk, members, end), [(3, end + 1024), FENCE] if end == word_3 + 1 else []
 
 
 def ceiling_cases(st):
@@ -1087,6 +1421,118 @@ def ceiling_aims(st):
     wanted |= {(call, aim) for call in CEILING_AIMS for aim in raw.AIMS[call]}
     same(sorted(map(str, wanted - seen)), [], "edges that no case has")
     return "%d edges" % len(wanted)
+
+
+@functools.lru_cache(maxsize=None)
+def group_round():
+    """The stored group cases, each with its aim."""
+    return [rawgroup.make(stored.RAW_SEED, number) for number in range(len(rawgroup.TURNS))]
+
+
+def group_cases(st):
+    """Each stored group case meets its aim and leaves what it must; none alters its input."""
+    for number, (case, (call, aim, value)) in enumerate(group_round()):
+        what = "group case %d" % number
+        done = made_unaltered(case, st)
+        same(told(done), (aim, value, ZEROS), what)
+        desk, entries = ceiling_left(case, aim) if aim == "end" else (case["desk"], [])
+        image = store.made(case["image"], entries)
+        same((done["desk"], done["image"], done["entries"]), (desk, image, entries), "left by " + what)
+    return "%d cases" % len(group_round())
+
+
+def group_causes(case):
+    """What is wrong with a group, in the order of its checks."""
+    image, desk, sessions = case["image"], case["desk"], sessions_in(case["session"])
+    wrong = {1: not store.image_right(image)}
+    wrong[2] = store.broken_rules(desk, None if wrong[1] else image) != []
+    wrong.update({3: case["trace"] < 48, 19: sessions == [], 4: any(s >= desk["M"] for s in sessions),
+                  6: any(desk["sessions"][s]["phase"] != "sealed" for s in sessions if s < desk["M"])})
+    return tuple(number for number in wrong if wrong[number])
+
+
+def group_kind(e):
+    """Phase of a session, and whether it holds copies."""
+    return e["phase"], e["count"] > 0
+
+
+def group_edges(case):
+    """What is special in a group that is published."""
+    desk, sessions, more = case["desk"], sessions_in(case["session"]), case["image"][3] - case["desk"]["clock"]
+    members, size = [desk["sessions"][s] for s in sessions], len(sessions)
+    beside = {group_kind(e) for s, e in enumerate(desk["sessions"][:desk["M"]]) if s not in sessions}
+    sealed = sum(e["phase"] == "sealed" for e in desk["sessions"])
+    numbers, copies = [e["number"] for e in members], {(e["count"], e["slot"]) for e in members}
+    yield from (("set", case["session"]), ("of M", size, desk["M"]), ("beside", size, len(beside)),
+                ("trace", case["trace"], more), ("word 3", case["image"][3]),
+                ("largest clock", size, sealed, L + 16 - sealed - desk["clock"], more))
+    orders = {"rise": sorted(set(numbers)), "fall": sorted(set(numbers), reverse=True), "equal": numbers[:1] * size}
+    yield from (("persist numbers", size, order) for order in orders if numbers == orders[order])
+    if size == 1:
+        yield "alone", sessions[0], desk["M"]
+    elif len(copies) == 1:
+        yield "all with", *copies.pop()
+    if desk["N"] == 256:
+        yield "N 256", desk["M"], size, sum(e["count"] for e in members)
+
+
+def group_places(case):
+    """The members that are not sealed: their kinds, where one alone stands in the set, and how many there are."""
+    sessions, entries = sessions_in(case["session"]), case["desk"]["sessions"]
+    others = [s for s in sessions if entries[s]["phase"] != "sealed"]
+    yield "not sealed", len(sessions), *sorted(group_kind(entries[s]) for s in others)
+    if len(others) == 1:
+        where = {0: "lowest", len(sessions) - 1: "highest"}.get(sessions.index(others[0]), "middle")
+        yield "one not sealed", len(sessions), where, group_kind(entries[others[0]])
+        yield "one not sealed", len(sessions), others[0]
+
+
+def group_aims(st):
+    """The group cases have the stated form; every refusal alone and with others, every edge occurs."""
+    seen, answers = set(), Counter()
+    for number, (case, (call, aim, value)) in enumerate(group_round()):
+        check_format(case, "group case %d" % number)
+        same((case["call"], call, case["session"] < 65536), (GROUP, GROUP, True), "call and set")
+        causes, m = group_causes(case), case["desk"]["M"]
+        same((causes + ("end",))[0], aim, "cause in group case %d" % number)
+        answers[aim] += 1
+        seen |= {("causes", causes), ("causes", causes, case["trace"])}
+        if causes == (2,):
+            seen.add(("broken", *store.broken_rules(case["desk"], case["image"])))
+        if causes == (1,):
+            seen.add(("length", len(case["image"])))
+        if causes in ((4,), (4, 6)):
+            sessions = sessions_in(case["session"])
+            kinds = [group_kind(case["desk"]["sessions"][s]) for s in sessions if s < m]
+            seen |= {("past", m, max(sessions) - m), ("only past", m, kinds == []), ("past", m, case["session"])}
+            seen |= {(causes, "at M" if m in sessions else max(sessions), kind) for kind in kinds}
+        if causes in ((4,), (6,), (19,)):
+            seen.add((causes, "raise due", case["image"][3] == case["desk"]["clock"]))
+        seen |= set(group_edges(case) if aim == "end" else group_places(case) if causes == (6,) else [])
+    both = [some for some in subsets([1, 2, 3, 19, 4, 6]) if 19 not in some or not {4, 6} & set(some)]
+    wanted = {("causes", tuple(some)) for some in both}
+    wanted |= {("causes", (3, *later), trace) for later in ((), (19,), (4,), (6,)) for trace in (0, 47)}
+    wanted |= {("broken", *rules) for _, rules in raw.BREAKS.values()}
+    wanted |= {("past", m, 0) for m in range(1, 16)} | {("past", m, 65535) for m in (1, 2, 9, 14, 15)}
+    wanted |= {("past", m, 15 - m) for m in (1, 2, 9, 14)} | {("only past", m, True) for m in (1, 2, 9, 14, 15)}
+    wanted |= {(causes, "raise due", due) for causes in ((4,), (6,), (19,)) for due in (True, False)}
+    wanted |= {("length", 1731), ("length", 1733), ("N 256", 16, 16, 64)}
+    wanted |= {("of M", size, 16) for size in range(1, 17)} | {("of M", m, m) for m in range(1, 17)}
+    wanted |= {("alone", s, 16) for s in range(16)} | {("alone", m - 1, m) for m in range(1, 17)}
+    wanted |= {("beside", size, 5) for size in range(1, 12)}
+    wanted |= {("set", members) for members in (1, 32768, 65534, 32767, 65535, 21845, 43690)}
+    wanted |= {("trace", trace, more) for trace in (48, 49, 64) for more in (0, 1, 2, 1024)}
+    wanted |= {("word 3", at) for at in (L, 2 ** 63, TOP)}
+    wanted |= {("largest clock", size, size, 0, 0) for size in range(1, 17)}
+    wanted |= {("all with", count, slot) for count in (1, 2, 3, 4) for slot in (0, 1)}
+    wanted |= {("persist numbers", 16, order) for order in ("rise", "fall", "equal")}
+    kinds = [("active", False), ("active", True), ("idle", False), ("published", True)]
+    wanted |= {("one not sealed", 5, where, kind) for where in ("lowest", "middle", "highest") for kind in kinds}
+    wanted |= {("one not sealed", 16, s) for s in range(16)} | {("not sealed", 1, kind) for kind in kinds}
+    wanted |= {("not sealed", 5, *two) for two in itertools.combinations_with_replacement(kinds, 2)}
+    wanted |= {((4, 6), where, kind) for where in ("at M", 15) for kind in kinds}
+    same(sorted(map(str, wanted - seen)), [], "edges that no case has")
+    return "%d edges; cases by answer: %s" % (len(wanted), dict(answers))
 
 
 def stream_kinds(st):
@@ -1471,7 +1917,7 @@ class ListeningTrial(Trial):
 
     def listen(self):
         """A listening call, mostly by a session without copies: call, session, record and number."""
-        rng, (_, session, record, _) = self.rng, super().choose()
+        rng, (_, session, record, _) = self.rng, self.choose_one()
         without = [s for s in range(self.m) if not self.foresight.mine[s]]
         if without and rng.random() < 0.6:
             session = rng.choice(without)
@@ -1606,11 +2052,14 @@ def listening_aims(lib):
 
 
 BY_CEILING = [ceiling_opens, ceiling_orders, ceiling_publishes, ceiling_coherence, lives, ceiling_cases]
+BY_GROUP = [group_sets, group_orders, group_raises, group_singles, group_moment, group_cuts, group_ends, group_runs,
+            group_cases]
 BY_STORE = [whole_case, edges, program_lines, answers, reads, crashes]
 BY_REELS = [reel_numbers, reel_lengths, reel_reads, reel_writes, reel_cases]
 BY_LISTENING = [listening_refusals, listening_begins, listening_finds, listening_runs, listening_cases]
 BY_WALK = [walk_cuts]
 ALL = [(test, store) for test in BY_STORE + BY_CEILING + [ceiling_aims, raw_cases, stream_kinds, stream_numbers]]
+ALL += [(test, store) for test in BY_GROUP + [group_aims]]
 ALL += [(test, reelwalk) for test in BY_WALK]
 ALL += [(test, reels) for test in BY_REELS + [reel_aims]]
 ALL += [(test, listening) for test in BY_LISTENING + [listening_aims]]
@@ -1681,8 +2130,8 @@ STORE_FAULTS = [
      "if session >= desk[\"M\"]:\n        return no(4)\n    if record is not None",
      "if session >= desk[\"M\"] and not (record or 0) >= desk[\"N\"]:\n"
      "        return no(4)\n    if record is not None"),
-    ("all session calls turned away",
-     "if not coherent(desk, image):\n        return no(2)", "if True:\n        return no(2)"),
+    ("all session calls turned away", "if not coherent(desk, image):\n        return no(2)\n    if trace is not None",
+     "if True:\n        return no(2)\n    if trace is not None"),
 ]
 
 # The same, of Req 05. In UNASKED a call makes its checks as if word 3 were high enough.
@@ -1792,6 +2241,150 @@ CEILING_FAULTS = [
      "    places = occupied(image)\n    bad"),
     ("lay leaves word 3", "[1, n, m, 0]", "[1, n, m, image[3]]"),
     ("lay writes 1,025 into word 3", "[1, n, m, 0]", "[1, n, m, 1025]"),
+]
+
+# The same, of Req 06. A check is a text of group_turned_away; an order is that of its checks.
+GROUP_CHECKS = {
+    1: "    if not image_right(image):\n        return no(1)\n", 2: "    if not coherent(desk, image):\n        return no(2)\n",
+    3: "    if trace < TRACE_WORDS:\n        return no(3)\n",
+    19: "    if not sessions:  # empty set\n        return no(19)\n",
+    4: "    if any(session >= desk[\"M\"] for session in sessions):\n        return no(4)\n",
+    6: "    if any(desk[\"sessions\"][session][\"phase\"] != \"sealed\" for session in sessions):\n        return no(6)\n"}
+GROUP_ORDERS = [[2, 1, 3, 19, 4, 6], [1, 3, 2, 19, 4, 6], [1, 2, 19, 3, 4, 6], [1, 2, 3, 19, 6, 4], [19, 1, 2, 3, 4, 6],
+                [1, 19, 2, 3, 4, 6], [3, 1, 2, 19, 4, 6], [1, 2, 19, 4, 3, 6], [1, 2, 19, 4, 6, 3], [1, 3, 19, 4, 2, 6],
+                [1, 3, 19, 4, 6, 2], [1, 4, 2, 3, 19, 6], [1, 2, 6, 3, 19, 4], [4, 1, 2, 3, 19, 6]]
+
+
+def checks(numbers, **other):
+    """The checks in this order, those that are named exchanged: as3="..." for 3."""
+    return "".join(other.get("as%d" % number, GROUP_CHECKS[number]) for number in numbers)
+
+
+CHECKED = checks(GROUP_CHECKS)
+GROUP_SET = "return [session for session in range(16) if members & 2 ** session]"
+GROUP_REFUSED = "    refusal = group_turned_away(image, desk, trace, sessions)\n    if refusal:\n"
+GROUP_STOP = GROUP_REFUSED + "        return result(refusal, desk, image)\n"
+GROUP_CLOCK = "    clock = desk[\"clock\"] + 1\n"
+GROUP_RAISE = "entries = raised(clock) if clock > ceiling(image) else []"
+GROUP_EACH = "    for session in sessions:\n        desk = with_phase(desk, session, \"published\", clock)\n"
+GROUP_DONE = "return result(said(\"end\", clock), dict(desk, clock=clock), image, entries)"
+IN_PHASE = "[\"phase\"] != \"sealed\" for session in sessions)"
+AS_6 = "    if %s:\n        return no(6)\n"
+SEALED_ONES = "[s for s in sessions if desk[\"sessions\"][s][\"phase\"] == \"sealed\"]"
+GROUP_FAULTS = [
+    *[("a group's checks in the order " + " ".join(map(str, order)), CHECKED, checks(order)) for order in GROUP_ORDERS],
+    *[("a group without %d" % number, CHECKED, checks([k for k in GROUP_CHECKS if k != number]))
+      for number in GROUP_CHECKS if number != 4],  # without 4 the answer is 6, as with 6 before 4
+    ("a group does not ask the ceiling", CHECKED, checks(GROUP_CHECKS, as2=GROUP_CHECKS[2].replace("image", UNASKED))),
+    ("a group's desk coherent without the image", CHECKED,
+     checks(GROUP_CHECKS, as2=GROUP_CHECKS[2].replace("desk, image", "desk"))),
+    ("a group with 3 under 4 words alone, what it needs", CHECKED,
+     checks(GROUP_CHECKS, as3=GROUP_CHECKS[3].replace("TRACE_WORDS", "4"))),
+    ("a group with 3 only where it raises", CHECKED, checks(GROUP_CHECKS, as3=GROUP_CHECKS[3].replace(
+        "TRACE_WORDS", "TRACE_WORDS and desk[\"clock\"] == ceiling(image)"))),
+    ("a trace of 48 is too short for a group", CHECKED,
+     checks(GROUP_CHECKS, as3=GROUP_CHECKS[3].replace("<", "<="))),
+    ("the empty set is refused with 6", CHECKED, checks(GROUP_CHECKS, as19=GROUP_CHECKS[19].replace("no(19)", "no(6)"))),
+    ("a member at M", CHECKED, checks(GROUP_CHECKS, as4=GROUP_CHECKS[4].replace(">=", ">"))),
+    ("4 only where all are at or above M", CHECKED, checks(GROUP_CHECKS, as4=GROUP_CHECKS[4].replace("any", "all"))),
+    ("members at or above M are passed over", "sessions = in_set(members)",
+     "sessions = [s for s in in_set(members) if s < desk[\"M\"]]"),
+    ("6 for the lowest member alone", IN_PHASE, IN_PHASE.replace("sessions)", "sessions[:1])")),
+    ("6 for the highest member alone", IN_PHASE, IN_PHASE.replace("sessions)", "sessions[-1:])")),
+    ("6 for the lowest and the highest member alone", IN_PHASE,
+     IN_PHASE.replace("sessions)", "sessions[:1] + sessions[-1:])")),
+    ("6 only where none is sealed", CHECKED, checks(GROUP_CHECKS, as6=GROUP_CHECKS[6].replace("any", "all"))),
+    ("6 for one member that is not sealed, not for two", CHECKED,
+     checks(GROUP_CHECKS, as6=AS_6 % ("len(sessions) - len(" + SEALED_ONES + ") == 1"))),
+    ("a member that is published is taken", IN_PHASE, IN_PHASE.replace("!= \"sealed\"", "not in (\"sealed\", \"published\")")),
+    ("a member that is idle is taken", IN_PHASE, IN_PHASE.replace("!= \"sealed\"", "not in (\"sealed\", \"idle\")")),
+    ("a member that is active is taken", IN_PHASE, IN_PHASE.replace("!= \"sealed\"", "not in (\"sealed\", \"active\")")),
+    ("a member with copies is taken", CHECKED, checks(GROUP_CHECKS, as6=AS_6 % (
+        "any(desk[\"sessions\"][session][\"count\"] == 0 for session in sessions)"))),
+    ("the sealed members alone are published", GROUP_STOP,
+     GROUP_REFUSED.replace("if refusal:", "if refusal and refusal[\"number\"] == 6 and any(" + SEALED_ONES + "):\n"
+                           "        sessions = " + SEALED_ONES + "\n    elif refusal:")
+     + "        return result(refusal, desk, image)\n"),
+    ("refused with 6, the sealed members are published", GROUP_STOP, GROUP_REFUSED
+     + "        for session in " + SEALED_ONES + " if refusal[\"number\"] == 6 else []:\n"
+     "            desk = with_phase(desk, session, \"published\", desk[\"clock\"])\n"
+     "        return result(refusal, desk, image)\n"),
+    *[("refused with %d, the clock goes on" % number, GROUP_STOP, GROUP_REFUSED
+       + "        ticks = refusal[\"number\"] == %d\n" % number
+       + "        return result(refusal, dict(desk, clock=desk[\"clock\"] + ticks), image)\n") for number in (3, 19, 4, 6)],
+    *[("refused with %d, word 3 is raised" % number, GROUP_STOP, GROUP_REFUSED
+       + "        due = refusal[\"number\"] == %d and desk[\"clock\"] == ceiling(image)\n" % number
+       + "        return result(refusal, desk, image, raised(desk[\"clock\"] + 1) if due else [])\n")
+      for number in (19, 4, 6)],
+    ("4 with the member", CHECKED, checks(GROUP_CHECKS, as4=GROUP_CHECKS[4].replace("no(4)", "no(4, sessions[-1])"))),
+    ("6 with the number of members", CHECKED, checks(GROUP_CHECKS, as6=GROUP_CHECKS[6].replace("no(6)", "no(6, len(sessions))"))),
+    ("the bits reversed", GROUP_SET, GROUP_SET.replace("2 ** session", "2 ** (15 - session)")),
+    ("the bits reversed within M", "sessions = in_set(members)", "sessions = in_set(members)\n"
+     "    if all(s < desk[\"M\"] for s in sessions):\n        sessions = [desk[\"M\"] - 1 - s for s in sessions]"),
+    ("bit 15 lost", GROUP_SET, GROUP_SET.replace("range(16)", "range(15)")),
+    ("bit 0 lost", GROUP_SET, GROUP_SET.replace("range(16)", "range(1, 16)")),
+    ("the low byte alone", GROUP_SET, GROUP_SET.replace("range(16)", "range(8)")),
+    ("the bytes exchanged", GROUP_SET, GROUP_SET.replace("2 ** session", "2 ** ((session + 8) % 16)")),
+    ("bit s is session s - 1", GROUP_SET, GROUP_SET.replace("2 ** session", "2 ** (session + 1)")),
+    ("the set is a session", GROUP_SET, "return [members % 16]"),
+    ("the set is a number of sessions", GROUP_SET, "return list(range(bin(members).count(\"1\")))"),
+    ("four members at most", GROUP_SET, GROUP_SET + "[:4]"),
+    ("fifteen members at most", GROUP_SET, GROUP_SET + "[:15]"),
+    ("an end of its own for each member", GROUP_EACH, "    for at, session in enumerate(sessions):\n"
+     "        desk = with_phase(desk, session, \"published\", clock + at)\n    clock += len(sessions) - 1\n"),
+    ("an end of its own for each member, one step of the clock", GROUP_EACH, "    for at, session in enumerate(sessions):\n"
+     "        desk = with_phase(desk, session, \"published\", max(2, clock - at))\n"),
+    ("the clock goes on by the number of members", GROUP_DONE,
+     GROUP_DONE.replace("clock=clock", "clock=clock + len(sessions) - 1")),
+    ("the end is the clock plus the number of members", GROUP_CLOCK, GROUP_CLOCK.replace("1", "len(sessions)")),
+    ("the end is the clock", GROUP_CLOCK, GROUP_CLOCK.replace(" + 1", "")),
+    ("the end is the clock plus 2", GROUP_CLOCK, GROUP_CLOCK.replace("1", "2")),
+    ("the end is the largest persist number plus 1", GROUP_CLOCK,
+     "    clock = max(desk[\"sessions\"][s][\"number\"] for s in sessions) + 1\n"),
+    ("the clock stays", GROUP_DONE, GROUP_DONE.replace("clock=clock", "clock=clock - 1")),
+    ("the lowest member alone is published", GROUP_EACH, GROUP_EACH.replace("in sessions", "in sessions[:1]")),
+    ("the highest member alone is published", GROUP_EACH, GROUP_EACH.replace("in sessions", "in sessions[-1:]")),
+    ("the end goes to the first member alone", GROUP_EACH, GROUP_EACH.replace(
+        "clock)", "clock if session == sessions[0] else max(2, desk[\"sessions\"][session][\"number\"]))")),
+    ("all sealed sessions are published", GROUP_EACH,
+     GROUP_EACH.replace("in sessions", "in [s for s, e in enumerate(desk[\"sessions\"]) if e[\"phase\"] == \"sealed\"]")),
+    ("the end goes to published sessions too", GROUP_EACH, GROUP_EACH.replace(
+        "in sessions", "in sessions + [s for s, e in enumerate(desk[\"sessions\"]) if e[\"phase\"] == \"published\"]")),
+    ("sessions from the lowest to the highest member are published", GROUP_EACH, GROUP_EACH.replace(
+        "in sessions", "in [s for s in range(sessions[0], sessions[-1] + 1) if desk[\"sessions\"][s][\"count\"]]")),
+    ("a group's marks are dropped", GROUP_DONE, "marks = [None if mark in sessions else mark for mark in desk[\"marks\"]]\n"
+     "    return result(said(\"end\", clock), dict(desk, clock=clock, marks=marks), image, entries)"),
+    ("a group's slots become 0", GROUP_EACH, GROUP_EACH
+     + "        desk = with_entry(desk, session, dict(desk[\"sessions\"][session], slot=0))\n"),
+    ("a group's copies are dropped", GROUP_EACH,
+     "    for session in sessions:\n        desk = with_entry(desk, session, entry(\"published\", clock))\n"),
+    ("a group is made idle", GROUP_EACH, "    for session in sessions:\n        desk = made_idle(desk, session)\n"),
+    ("a group stays sealed", GROUP_EACH, ""),
+    ("a group without a raise", GROUP_RAISE, "entries = []"),
+    ("a group raises at word 3 already", GROUP_RAISE, GROUP_RAISE.replace(">", ">=")),
+    ("a group raises every time", GROUP_RAISE, "entries = raised(clock)"),
+    ("a group raises by 1,023", GROUP_RAISE, GROUP_RAISE.replace("raised(clock)", "[(3, clock + 1023), FENCE]")),
+    ("a group raises by 1,024 for each member", GROUP_RAISE,
+     GROUP_RAISE.replace("raised(clock)", "raised(clock + 1024 * len(sessions) - 1024)")),
+    ("a group raises once for each member", GROUP_RAISE, GROUP_RAISE.replace("raised(clock)", "raised(clock) * len(sessions)")),
+    ("a group raises where a step for each member would pass word 3", GROUP_RAISE,
+     GROUP_RAISE.replace("if clock >", "if clock + len(sessions) - 1 >")),
+    ("a group raises with one member alone", GROUP_RAISE, GROUP_RAISE.replace("else", "and len(sessions) == 1 else")),
+    ("a group raises with two members or more", GROUP_RAISE, GROUP_RAISE.replace("else", "and len(sessions) > 1 else")),
+    ("a group does not raise past L", GROUP_RAISE, GROUP_RAISE.replace("else", "and clock < L else")),
+    ("a group refuses a raise past L", GROUP_RAISE, GROUP_RAISE
+     + "\n    if entries and clock + RAISE > L:\n        return result(no(10), desk, image)"),
+    ("a group is refused with 10 at L", GROUP_CLOCK,
+     "    if desk[\"clock\"] >= L:\n        return result(no(10), desk, image)\n" + GROUP_CLOCK),
+    ("a group's raise without its fence", GROUP_RAISE, GROUP_RAISE.replace("raised(clock)", "raised(clock)[:1]")),
+    ("a group's fence before its store", GROUP_RAISE, GROUP_RAISE.replace("raised(clock)", "raised(clock)[::-1]")),
+    ("a group's raise not listed", GROUP_RAISE, GROUP_RAISE + "\n    image, entries = made(image, entries), []"),
+    ("a group's raise listed and not made", GROUP_DONE, "return dict(result(said(\"end\", clock), dict(desk, clock=clock),"
+     " image), entries=entries)"),
+    ("a group without stores has a fence", GROUP_RAISE, GROUP_RAISE.replace("[]", "[FENCE]")),
+    ("a group answers ok", GROUP_DONE, GROUP_DONE.replace("said(\"end\", clock)", "said(\"ok\")")),
+    ("a group answers the number of members", GROUP_DONE, GROUP_DONE.replace("\"end\", clock", "\"end\", len(sessions)")),
+    ("a group answers the old clock", GROUP_DONE, GROUP_DONE.replace("\"end\", clock", "\"end\", clock - 1")),
 ]
 
 # The same, of reelwalk.py.
@@ -2019,6 +2612,7 @@ LISTENING_FAULTS = [
 # the faults.
 PLANTED = [("store.py", store, BY_STORE, [], STORE_FAULTS),
            ("store.py", store, BY_CEILING, [ceiling_cases], CEILING_FAULTS),
+           ("store.py", store, BY_GROUP, [group_cases], GROUP_FAULTS),
            ("reelwalk.py", reelwalk, BY_WALK, [], WALK_FAULTS), ("reels.py", reels, BY_REELS, [], REEL_FAULTS),
            ("listening.py", listening, BY_LISTENING, [listening_cases], LISTENING_FAULTS)]
 

@@ -189,7 +189,7 @@ idle-none (Sealed n) k c e = absurd (false≢true e)
 idle-none (Published n) k c e = absurd (false≢true e)
 
 -- copies where a record is found have it, and others do not
-found-mem : (r : ℕ) (cs : List Copy) → So (found (find r cs)) → (ws : List ℕ) × Mem r ws cs
+pub found-mem : (r : ℕ) (cs : List Copy) → So (found (find r cs)) → (ws : List ℕ) × Mem r ws cs
 found-mem r cs = go (find r cs) (find? r cs)
   where
     go : (o : Option (List ℕ)) → Found r cs o → So (found o) → (ws : List ℕ) × Mem r ws cs

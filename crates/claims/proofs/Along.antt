@@ -9,7 +9,7 @@ use Rattle.layout.specs.Entries.{made, endsFenced}
 use Rattle.layout.specs.Image.{recordsOf, sessionsOf, ceilingOf}
 use Rattle.layout.specs.Told.{Told, ok, isRefusal}
 use Rattle.recovery.specs.Open.{openEntries}
-use Rattle.history.specs.Call.{Listening, Begin, Read, Finish, Find, Call, begin, read, write, abandon, finish, publish, settle, reclaim, listen}
+use Rattle.history.specs.Call.{Listening, Begin, Read, Finish, Find, Call, begin, read, write, abandon, finish, publish, group, settle, reclaim, listen}
 use Rattle.history.specs.Desk.{Desk as Txns}
 use Rattle.history.specs.Due.{Due, dueOf, due}
 use Rattle.history.specs.Layout.{view}
@@ -25,6 +25,7 @@ use Rattle.claims.proofs.Lists.{lists}
 use Rattle.claims.proofs.Simulation.{Sim, Ready}
 use Rattle.claims.proofs.SimulateDesk.{begin-sim, abandon-sim}
 use Rattle.claims.proofs.SimulatePublish.{publish-sim}
+use Rattle.claims.proofs.SimulateGroup.{group-sim}
 use Rattle.claims.proofs.SimulateRead.{read-sim}
 use Rattle.claims.proofs.SimulateWrite.{write-sim}
 use Rattle.claims.proofs.SimulateFinish.{finish-sim}
@@ -70,6 +71,7 @@ module _ (N M : ℕ) (w : World) (a : Along N M w) where
   same-here (abandon s) = abandon-sim N M (w .image) (w .desk) s _ (w .ledger .history) (a .ready)
   same-here (finish len s) = finish-sim N M (w .image) (w .desk) _ (w .ledger .history) len s (a .ready)
   same-here (publish len s) = publish-sim N M (w .image) (w .desk) _ (w .ledger .history) len s (a .ready)
+  same-here (group len set) = group-sim N M (w .image) (w .desk) _ (w .ledger .history) len set (a .ready)
   same-here (settle len s) = settle-sim N M (w .image) (w .desk) _ (w .ledger .history) len s (a .ready)
   same-here (reclaim len s) = reclaim-sim N M (w .image) (w .desk) (w .ledger .history) len s (a .ready)
   same-here (listen c) = listening-here c
@@ -96,6 +98,7 @@ module _ (N M : ℕ) (w : World) (a : Along N M w) where
   looks-here (abandon s) = unlooked (abandon s)
   looks-here (finish len s) = unlooked (finish len s)
   looks-here (publish len s) = unlooked (publish len s)
+  looks-here (group len set) = unlooked (group len set)
   looks-here (settle len s) = unlooked (settle len s)
   looks-here (reclaim len s) = unlooked (reclaim len s)
   looks-here (listen (Begin s)) = unlooked (listen (Begin s))
@@ -157,6 +160,7 @@ call-fenced w (write s r ws) = refl
 call-fenced w (abandon s) = refl
 call-fenced w (finish len s) = lists .finish (w .image) (w .desk) len s .fenced
 call-fenced w (publish len s) = lists .publish (w .image) (w .desk) len s .fenced
+call-fenced w (group len set) = lists .group (w .image) (w .desk) len set .fenced
 call-fenced w (settle len s) = lists .settle (w .image) (w .desk) len s .fenced
 call-fenced w (reclaim len s) = lists .reclaim (w .image) (w .desk) len s .fenced
 call-fenced w (listen (Begin s)) = refl

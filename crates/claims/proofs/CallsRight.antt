@@ -10,7 +10,7 @@ use lib.Dec.{T, leb, nleb→lt, eqb→eq}
 use lib.ListN.{getD}
 use borrow.Author.Tests.{eq-eqb}
 use Rattle.layout.specs.Told.{Told, foundAt, is, isRefusal, valueOf, wordsTold, Copy, Home, None, Found}
-use Rattle.history.specs.Call.{Listening, Begin, Read, Finish, Find, Call, begin, read, write, abandon, finish, publish, settle, reclaim, listen}
+use Rattle.history.specs.Call.{Listening, Begin, Read, Finish, Find, Call, begin, read, write, abandon, finish, publish, group, settle, reclaim, listen}
 use Rattle.history.specs.Desk.{Copy as TxnCopy, find, Session, idle, active, sealed, published, holder}
 use Rattle.history.specs.Due.{Due, refuse, fourWords, shownBy, readsOther, readsOwn, reads, ifSession, ifRecord, hears, shelvedAt, firstShelved, finds, searches, due}
 use Rattle.history.specs.History.{History, viewAt}
@@ -196,6 +196,7 @@ module _ (N M : ℕ) (w : World) (a : Along N M w) (h : History)
   call-right (abandon s) = tt
   call-right (finish len s) = tt
   call-right (publish len s) = tt
+  call-right (group len set) = tt
   call-right (settle len s) = tt
   call-right (reclaim len s) = tt
   call-right (listen c) = listening-right c

@@ -1,6 +1,6 @@
 -- The impostors fail on short computed runs. Where an impostor does what the store does, its run is the one that is due, which is computed
 -- from the ledger alone.
-use Prim.Native.Nat.{ℕ, zero, suc, _-_, _<_}
+use Prim.Native.Nat.{ℕ, zero, suc, _+_, _-_, _<_}
 use mathlib.Core.Bool.{Bool, true, false, cond, _&&_, not, false≢true}
 use mathlib.Core.List.{List, [], _∷_, _++_, append-nil, append-assoc}
 use mathlib.Core.Option.{some}
@@ -17,24 +17,28 @@ use Rattle.layout.specs.Entries.{Entry, store, fence, made, endsFenced}
 use Rattle.layout.specs.Homes.{homesWrites}
 use Rattle.layout.specs.Image.{shapedB, occupiedB, homeWords, slotAt}
 use Rattle.layout.specs.Lay.{emptyImage}
-use Rattle.layout.specs.Told.{Told, ok, start, home, wait, nothing, held, clean, replayed, foundAt, codeTold, is, isRefusal, valueOf, wordsTold, None}
+use Rattle.layout.specs.Told.{Told, ok, start, copied, home, wait, nothing, held, clean, replayed, foundAt, codeTold, is, isRefusal, refusedBy, valueOf, wordsTold, None}
 use Rattle.layout.proofs.Says.{by-test}
 use Rattle.journal.specs.Log.{bodyWrites, unsoundB, sharedB}
 use Rattle.layout.specs.Oldest.{oldestOf}
 use Rattle.desk.specs.Coherent.{freshB, placesOk, sessionOk, copiesB, coherentB}
 use Rattle.desk.specs.Desk.{sessionAt, markAt, isSealed, idleSession}
+use Rattle.desk.specs.Begin.{beginFault, beginRefused, begun, beginReply}
 use Rattle.desk.specs.Entering.{entryFault}
+use Rattle.desk.specs.Group.{member}
 use Rattle.desk.specs.Publish.{publishFault, publishEntries, publishReply}
+use Rattle.desk.specs.Told.{beginTold}
 use Rattle.desk.specs.declared.state.Phase.{Phase}
 use Rattle.desk.specs.declared.state.Phase.the-variants.{Idle, Active, Sealed, Published}
 use Rattle.desk.specs.declared.state.Desk.{Desk}
 use Rattle.layout.specs.Tidy.{Tidy}
 use Rattle.commit.specs.Finish.{finishFault}
+use Rattle.snapshot.specs.Read.{startOf}
 use Rattle.commit.specs.Settle.{endOf, startBelow, startsFor}
 use Rattle.commit.specs.Reclaim.{clearEntries}
 use Rattle.recovery.specs.Open.{openFault, openEntries, openReply}
 use Rattle.recovery.specs.Recover.{unsoundPlace, tiedBelow, tiesB, recoverFault, firstLog, recoverRefused, recoverReply, recoverEntries}
-use Rattle.history.specs.Call.{Begin, Find, Call, begin, read, write, finish, publish, settle, reclaim, listen}
+use Rattle.history.specs.Call.{Begin, Find, Call, begin, read, write, finish, publish, group, settle, reclaim, listen}
 use Rattle.history.specs.Desk.{Copy, Session as Txn, idle, active, sealed, published, Desk as Txns, upd, firstOf, holder}
 use Rattle.history.specs.Due.{raiseStores, smallest, due}
 use Rattle.history.specs.Cut.{feedCut}
@@ -48,6 +52,7 @@ use Rattle.claims.specs.Demands.{Demand2, OpeningStores, PublishStores, 
 use Rattle.claims.specs.Edges.{deskOf, oneMark, oneCopy}
 use Rattle.claims.specs.Lives.{Life, AllCome, afterLife, afterLives}
 use Rattle.claims.specs.Fresh.{numberGiven, Gives, Fresh}
+use Rattle.claims.specs.Impostors.{oneByOne, inTurn, endsInTurn, tickingForEach, ticksForEach, firstAlone, endsFirstAlone, showingLater, showsLater, publishesSome}
 use Rattle.claims.specs.Impostors.{Impostors, Change, kindOf, past, telling, relisting, zeroing, miscounting, clearingEarly, waitingForAll, showingSealed, busyOther, heldSealed, sealedCopy, turnsAway, waitsAtOnce, holdsAtOnce, readsZeros, zeroed, doesNothing, storesNothing, saysClean, clearing, clearsOthers, withoutLast, unfencedAt, replaysOne, miscounts, unfenced, oneGroup, sessionOrder, clearsEarly, waitsForAll, showsSealed, namingBy, names, lowestReader, lastReader, newestReader, asRead, asHome, Search, firstEnd, lastEnd, earlyEnd, findingBy, findsBy, openingBy, clockAlone}
 use Rattle.claims.proofs.Abstraction.{txn-of, copiesOf, pack, marked}
 use Rattle.claims.proofs.Entering.{holder-named}
@@ -112,7 +117,7 @@ after : List Call → World
 after calls = run storeRules calls (opened storeRules image 48)
 
 expected : List Call → Seen
-unfolding allBelow anyBelow countBelow lowest first answered shapedB occupiedB homesWrites bodyWrites unsoundB sharedB oldestOf openFault openEntries openReply unsoundPlace tiedBelow tiesB recoverFault firstLog recoverRefused recoverReply recoverEntries note due smallest reply upd firstOf seen due-stored replays afterAttempts clearing
+unfolding allBelow anyBelow countBelow lowest first answered shapedB occupiedB homesWrites bodyWrites unsoundB sharedB oldestOf openFault openEntries openReply unsoundPlace tiedBelow tiesB recoverFault firstLog recoverRefused recoverReply recoverEntries note due smallest member reply upd firstOf seen due-stored replays afterAttempts clearing
 expected calls = seen calls first-seen
 
 after-is : (calls : List Call) → run storeRules calls (opened storeRules image 48) ≡ after calls
@@ -830,6 +835,134 @@ publish-unfenced : ((img : List ℕ) (d : Desk) (len s : ℕ)
 unfolding allBelow anyBelow countBelow first answered shapedB freshB placesOk sessionOk copiesB coherentB entryFault publishFault publishEntries publishReply
 publish-unfenced h = false≢true (h (set (emptyImage 8 2) 3 3) (deskOf 3 oneMark (oneCopy (Sealed 1)) idleSession) 48 0 .fenced)
 
+-- ---- a set of sessions
+
+-- sessions 0 and 1 are sealed, then published together
+abbrev both : List Call
+both = sealing 0 0 5 ++ sealing 1 1 9
+
+abbrev together : Call
+together = group 48 3
+
+-- demand 2 behind calls on which R does what the store does and one more, c
+module _ (R : Rules) (calls : List Call) (a : Alike (opening-as R) calls) (h : Demand2 (opening-as R)) (c : Call) where
+  abbrev given : Reply
+  given = reply (opening-as R) (after calls) c
+
+  abbrev told : Told
+  told = due 2 4 (expected calls .ledger) c .answer
+
+  answers-behind : (e : Call) → reply (opening-as R) (step (opening-as R) (after calls) c) e .told ≡ due 2 4 (note c told (expected calls .ledger)) e .answer
+  unfolding step
+  answers-behind e =
+      subst (λ (w : World). reply (opening-as R) w e .told ≡ due 2 4 (w .ledger) e .answer)
+      (run-last (opening-as R) calls c (opened storeRules image 48) ∙ ap (λ (w : World). step (opening-as R) w c) (ran R calls a))
+      (h image 48 opens (calls ++ (c ∷ [])) e)
+      ∙ ap (λ (t : Told). due 2 4 (note c t (after calls .ledger)) e .answer) (answers R calls a h c)
+      ∙ ap (λ (v : Seen). due 2 4 (note c told (v .ledger)) e .answer) (after-expected calls)
+
+  -- a start other than the one that is due
+  clock-due : ((w : World) → reply (opening-as R) w (begin 2) ≡ reply storeRules w (begin 2)) → (b : ℕ) → due 2 4 (note c told (expected calls .ledger)) (begin 2) .answer ≡ start b
+      → eqb (given .desk .clock) b ≡ false → ⊥
+  unfolding step reply beginReply answered
+  clock-due alike b s n = go (beginFault (given .desk) 2) (ap (λ (y : Reply). y .told) (sym (alike (step (opening-as R) (after calls) c))) ∙ answers-behind (begin 2) ∙ s)
+    where
+      go : (k : ℕ) → beginTold (answered k (beginRefused (given .desk)) (begun (given .desk) 2) .answer) ≡ start b → ⊥
+      go zero e = eqb-false _ _ n (ap valueOf e)
+      go (suc k) e = unlike-told e refl
+
+clock-after : (calls : List Call) → after calls .desk .clock ≡ expected calls .ledger .desk .clock
+clock-after calls = ap (λ (d : Txns). d .clock) (sym (along calls .linked)) ∙ ap (λ (v : Seen). v .ledger .desk .clock) (after-expected calls)
+
+-- a group that is changed, where its clock is not the end
+wrong-clock : (change : Change) → Alike (opening-as (past 20 change)) both
+    → eqb (change (after both .image) (after both .desk) together (reply storeRules (after both) together) .desk .clock) 2 ≡ false → Demand2 (past 20 change) → ⊥
+unfolding expected
+wrong-clock change a n h =
+    clock-due (past 20 change) both a h together (λ w. refl) 2 refl (rw (changed 20 change both together refl refl) n)
+
+ends-in-turn : (f : Told → Told) → Demand2 (endsInTurn f) → ⊥
+unfolding expected oneByOne
+ends-in-turn f h = wrong-clock (inTurn f) (search depth 9) (rw (clock-after both) refl) h
+
+ticks-for-each : Demand2 ticksForEach → ⊥
+unfolding expected
+ticks-for-each h = wrong-clock tickingForEach (search depth 9) (rw (clock-after both) refl) h
+
+-- session 1 is still sealed, and cannot be settled: ok is due
+abbrev alone : List Call
+alone = both ++ (publish 48 0 ∷ [])
+
+after-alone : after alone ≡ step storeRules (after both) (publish 48 0)
+unfolding after
+after-alone = run-last storeRules both (publish 48 0) (opened storeRules image 48)
+
+ends-first-alone : Demand2 endsFirstAlone → ⊥
+unfolding expected step
+ends-first-alone h =
+    unlike-told
+    (sym (told-next alone (settle 48 1))
+    ∙ ap (λ (w : World). reply storeRules w (settle 48 1) .told) after-alone
+    ∙ ap (λ (y : Reply). storeRules .call (made (y .entries) (after both .image)) (y .desk) (settle 48 1) .told) (sym (changed 20 firstAlone both together refl refl))
+    ∙ answers-behind endsFirstAlone both (search depth 9) h together (settle 48 1))
+    refl
+
+-- to a reader that begins at once the copy is due
+shows-later : Demand2 showsLater → ⊥
+unfolding expected
+shows-later h =
+    unlike-told (sym (go (reply storeRules (after calls) (read 2 1)) (told-next calls (read 2 1))) ∙ past-answers 2 showingLater calls (read 2 1) refl refl (search depth 12) h) refl
+  where
+    calls : List Call
+    calls = both ++ together ∷ begin 2 ∷ []
+
+    d : Desk
+    d = after calls .desk
+
+    ended-at : (t : ℕ) → endOf (sessionAt (after calls .desk) t .phase) ≡ end-in (expected calls .ledger .desk .session t)
+    ended-at t = end-same (sessionAt d t .phase) (sessionAt d t .slot) (copiesOf (sessionAt d t)) ∙ ap end-in (session-after calls t)
+
+    began : Txn → ℕ
+    began idle = 0
+    began (active b q cs) = b
+    began (sealed n q cs) = 0
+    began (published e q cs) = 0
+
+    began-same : (p : Phase) (q : ℕ) (cs : List Copy) → startOf p ≡ began (txn-of p q cs)
+    began-same Idle q cs = refl
+    began-same (Active b) q cs = refl
+    began-same (Sealed n) q cs = refl
+    began-same (Published e) q cs = refl
+
+    began-at : (t : ℕ) → startOf (sessionAt (after calls .desk) t .phase) ≡ began (expected calls .ledger .desk .session t)
+    began-at t = began-same (sessionAt d t .phase) (sessionAt d t .slot) (copiesOf (sessionAt d t)) ∙ ap began (session-after calls t)
+
+    go : (y : Reply) → y .told ≡ copied (9 ∷ 6 ∷ 7 ∷ 8 ∷ []) → showingLater (after calls .image) d (read 2 1) y .told ≡ home (homeWords (after calls .image) 1)
+    go y e = rw (e, mark-after calls 1 1 (omega arith) refl, ended-at 1, ended-at 0, began-at 2) refl
+
+-- session 1 is sealed: where a set is refused the clock stays
+some-clock : (k : ℕ) (f : Told → Told) (set : ℕ) → refusedBy k (due 2 4 (expected (sealing 1 1 9) .ledger) (group 48 set) .answer) ≡ true
+    → reply (publishesSome k f) (after (sealing 1 1 9)) (group 48 set) .desk .clock ≡ after (sealing 1 1 9) .desk .clock + 1
+unfolding reply
+some-clock k f set r = rw (ap (refusedBy k) (told-next (sealing 1 1 9) (group 48 set)) ∙ r) refl
+
+-- session 0 is idle
+publishes-sealed : (f : Told → Told) → Demand2 (publishesSome 6 f) → ⊥
+unfolding expected
+publishes-sealed f h =
+    clock-due (publishesSome 6 f) (sealing 1 1 9) (search depth 9) h (group 48 3) (λ w. refl) 1 refl (rw (some-clock 6 f 3 refl, clock-after (sealing 1 1 9)) refl)
+
+-- session 4 is none of four
+publishes-low : (f : Told → Told) → Demand2 (publishesSome 4 f) → ⊥
+unfolding expected
+publishes-low f h =
+    clock-due (publishesSome 4 f) (sealing 1 1 9) (search depth 9) h (group 48 18) (λ w. refl) 1 refl (rw (some-clock 4 f 18 refl, clock-after (sealing 1 1 9)) refl)
+
+publishes-none : (f : Told → Told) → Demand2 (publishesSome 19 f) → ⊥
+unfolding expected
+publishes-none f h =
+    clock-due (publishesSome 19 f) (sealing 1 1 9) (search depth 9) h (group 48 0) (λ w. refl) 1 refl (rw (some-clock 19 f 0 refl, clock-after (sealing 1 1 9)) refl)
+
 pub impostors : Impostors
 impostors =
     record {
@@ -859,6 +992,13 @@ impostors =
       looks-home = looks-home;
       looks-last = looks-last;
       looks-early = looks-early;
+      ends-in-turn = ends-in-turn;
+      ticks-for-each = ticks-for-each;
+      ends-first-alone = ends-first-alone;
+      shows-later = shows-later;
+      publishes-sealed = publishes-sealed;
+      publishes-low = publishes-low;
+      publishes-none = publishes-none;
       opens-unfenced = opens-unfenced;
       opens-unraised = opens-unraised;
       opens-at-clock = opens-at-clock;

@@ -9,6 +9,7 @@ pub mod Simulation
 pub mod Entering
 pub mod SimulateDesk
 pub mod SimulatePublish
+pub mod SimulateGroup
 pub mod SimulateWrite
 pub mod SimulateChecks
 pub mod SimulateFinish
@@ -18,6 +19,7 @@ pub mod SimulateRead
 pub mod SimulateListening
 pub mod Recovering
 pub mod SteadyCalls
+pub mod SteadyGroup
 pub mod Opening
 pub mod ReadyKept
 pub mod Along
@@ -30,5 +32,7 @@ pub mod Demands
 pub mod Lives
 pub mod Fresh
 pub mod Ceilings
+pub mod Together
+pub mod SharedEnds
 pub mod Impostors
 pub mod ReelsBack

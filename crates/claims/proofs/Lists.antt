@@ -2,6 +2,7 @@
 use mathlib.Core.Path.{refl}
 use Rattle.commit.proofs.Lists.{finish-tidy, settle-tidy, reclaim-tidy, finish-length, settle-length}
 use Rattle.desk.proofs.PublishLaws.{publish-tidy}
+use Rattle.desk.proofs.GroupLaws.{group-tidy}
 use Rattle.recovery.proofs.OpenLaws.{open-tidy}
 use Rattle.recovery.proofs.Lists.{recover-tidy, recover-length}
 use Rattle.listening.proofs.FinishLaws.{no-entries}
@@ -14,6 +15,7 @@ lists =
       opens = open-tidy;
       finish = finish-tidy;
       publish = publish-tidy;
+      group = group-tidy;
       settle = settle-tidy;
       reclaim = reclaim-tidy;
       listen-finish = no-entries;

@@ -6,7 +6,7 @@ use mathlib.Core.List.{List, [], _∷_, _++_}
 use Rattle.layout.specs.Image.{recordsOf, homeWords}
 use Rattle.layout.specs.Told.{Told, is, refusedBy, valueOf, Ok, Start, Sealed, End}
 use Rattle.layout.proofs.Says.{by-test}
-use Rattle.history.specs.Call.{Listening, Begin, Read, Finish, Find, Call, begin, read, write, abandon, finish, publish, settle, reclaim, listen}
+use Rattle.history.specs.Call.{Listening, Begin, Read, Finish, Find, Call, begin, read, write, abandon, finish, publish, group, settle, reclaim, listen}
 use Rattle.history.specs.Cut.{numberArrived, feedCut}
 use Rattle.history.specs.Desk.{Desk, find}
 use Rattle.history.specs.Due.{fourWords}
@@ -49,6 +49,7 @@ feed-opening (write s r ws) t h =
 feed-opening (abandon s) t h = by-test (is Ok t) (λ e. rw e refl) (λ e. rw e refl)
 feed-opening (finish len s) t h = by-test (is Sealed t) (λ e. rw e refl) (λ e. rw e refl)
 feed-opening (publish len s) t h = by-test (is End t) (λ e. rw e refl) (λ e. rw e refl)
+feed-opening (group len set) t h = by-test (is End t) (λ e. rw e refl) (λ e. rw e refl)
 feed-opening (settle len s) t h = refl
 feed-opening (reclaim len s) t h = refl
 feed-opening (listen c) t h = listening-opening c t h
@@ -59,6 +60,7 @@ cut-opening N d (read s r) t img h = refl
 cut-opening N d (write s r ws) t img h = refl
 cut-opening N d (abandon s) t img h = refl
 cut-opening N d (publish len s) t img h = refl
+cut-opening N d (group len set) t img h = refl
 cut-opening N d (settle len s) t img h = refl
 cut-opening N d (reclaim len s) t img h = refl
 cut-opening N d (listen c) t img h = refl

@@ -4,12 +4,13 @@ use mathlib.Core.Path.{_≡_, refl, _∙_}
 use mathlib.Core.List.{List}
 use Rattle.layout.specs.Image.{ceilingOf}
 use Rattle.desk.specs.declared.state.Desk.{Desk}
-use Rattle.history.specs.Call.{Listening, Begin, Read, Finish, Find, Call, begin, read, write, abandon, finish, publish, settle, reclaim, listen}
+use Rattle.history.specs.Call.{Listening, Begin, Read, Finish, Find, Call, begin, read, write, abandon, finish, publish, group, settle, reclaim, listen}
 use Rattle.claims.specs.Rules.{listeningCall, storeRules}
 use Rattle.claims.specs.Run.{World, reply}
 use Rattle.claims.proofs.Recovering.{Whole}
 use Rattle.claims.proofs.Simulation.{Ready}
 use Rattle.claims.proofs.Steady.{Steady, Kept}
+use Rattle.claims.proofs.SteadyGroup.{group-kept}
 use Rattle.claims.proofs.SteadyCalls.{begin-kept, abandon-kept, publish-kept, write-kept, finish-kept, settle-kept, read-desk, reclaim-desk, listen-finish-kept, listen-read-desk, find-desk}
 
 pub whole-of : (N M : ℕ) (img : List ℕ) (d : Desk) → Ready N M img d → Whole N M img
@@ -37,6 +38,7 @@ desk-kept w (write s r ws) h = write-kept (w .image) (w .desk) s r ws h
 desk-kept w (abandon s) h = abandon-kept (w .desk) s h
 desk-kept w (finish len s) h = finish-kept (w .image) (w .desk) len s h
 desk-kept w (publish len s) h = publish-kept (w .image) (w .desk) len s h
+desk-kept w (group len set) h = group-kept (w .image) (w .desk) len set h
 desk-kept w (settle len s) h = settle-kept (w .image) (w .desk) len s h
 desk-kept w (reclaim len s) h = stays (w .desk) _ h (reclaim-desk (w .image) (w .desk) len s)
 desk-kept w (listen c) h = listening-kept (w .image) (w .desk) c h

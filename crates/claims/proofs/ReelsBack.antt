@@ -11,6 +11,7 @@ use borrow.Author.Tests.{eq-eqb}
 use Rattle.layout.specs.Image.{recordsOf, sessionsOf}
 use Rattle.layout.specs.Told.{Told, ok, own, is, refusedBy, valueOf, isRefusal, codeTold, wordsTold, Ok, Start, Empty, Sealed, End}
 use Rattle.layout.proofs.Says.{says-itself, says-and}
+use Rattle.desk.specs.Group.{member}
 use Rattle.desk.specs.declared.state.Desk.{Desk as StoreDesk}
 use Rattle.snapshot.specs.Read.{readReply}
 use Rattle.snapshot.specs.Told.{readTold, writeTold}
@@ -25,10 +26,10 @@ use Rattle.reels.specs.Read.{reelRead, readReelReply}
 use Rattle.reels.specs.Write.{writeReelReply}
 use Rattle.reels.specs.declared.reel.Reel.{Reel}
 use Rattle.reels.proofs.Laws.{good-unpacks}
-use Rattle.history.specs.Call.{Listening, Begin, Read, Finish, Find, Call, begin, read, write, abandon, finish, publish, settle, reclaim, listen}
+use Rattle.history.specs.Call.{Listening, Begin, Read, Finish, Find, Call, begin, read, write, abandon, finish, publish, group, settle, reclaim, listen}
 use Rattle.history.specs.Desk.{find, Session, idle, active, sealed, published, Desk, upd, withSession}
 use Rattle.history.specs.Due.{refuse, reads, wrote, due}
-use Rattle.history.specs.Ledger.{Ledger, copying, sealedWith, endedWith, ticked, noteListening, noteDesk, note}
+use Rattle.history.specs.Ledger.{Ledger, copying, sealedWith, endedWith, ticked, endedAll, noteListening, noteDesk, note}
 use Rattle.history.proofs.Copies.{upd-same, find-put-same, find-put-other}
 use Rattle.claims.specs.Rules.{storeRules}
 use Rattle.claims.specs.Run.{World, opened, reply, step, run}
@@ -81,6 +82,14 @@ module _ (s r : ℕ) (ws : List ℕ) where
   ended-holds n (sealed m q cs) h = tt
   ended-holds n (published e q cs) h = tt
 
+  -- with an end for those that pass a test
+  passing : (p : ℕ → Bool) (n : ℕ) (d : Desk) → HoldsIn d → HoldsIn (endedAll p n (ticked d))
+  passing p n d h = go (p s)
+    where
+      go : (b : Bool) → Holds (cond b (endedWith n (d .session s)) (d .session s))
+      go true = ended-holds n (d .session s) h
+      go false = h
+
   listening-holds : (c : Listening) (t : Told) (d : Desk) → besidesListening s c ≡ true → HoldsIn d → HoldsIn (noteListening c t d)
   listening-holds (Begin u) t d b h =
       either (is Start t) _ d (entered u _ d (λ e. absurd (false≢true (sym (ap not (eq-eqb u s e)) ∙ b))) h) h
@@ -104,7 +113,8 @@ module _ (s r : ℕ) (ws : List ℕ) where
       either (is Sealed t) _ _ (entered u _ d (λ e. sealed-holds (valueOf t) (d .session u)) h)
       (either (is Empty t) _ d (entered u idle d (λ e. tt) h) h)
   note-holds (publish len u) t f d b h =
-      either (is End t) _ d (entered u _ (ticked d) (λ e. rw e (ended-holds (valueOf t) (d .session s) h)) h) h
+      either (is End t) _ d (passing (λ v. eqb v u) (valueOf t) d h) h
+  note-holds (group len set) t f d b h = either (is End t) _ d (passing (λ v. member v set) (valueOf t) d h) h
   note-holds (settle len u) t f d b h = either (is Ok t) _ d (entered u idle d (λ e. tt) h) h
   note-holds (reclaim len u) t f d b h = h
   note-holds (listen c) t f d b h = listening-holds c t d b h

@@ -20,6 +20,7 @@ use Rattle.desk.specs.Desk.{sessionAt, markAt, isIdle, isActive, dropped}
 use Rattle.desk.specs.Begin.{beginFault, beginRefused, begun, beginReply}
 use Rattle.desk.specs.Abandon.{abandonFault, abandonRefused, abandoned, abandonReply}
 use Rattle.desk.specs.Publish.{publishRefused, published, publishReply}
+use Rattle.desk.specs.Group.{grouped, groupReply}
 use Rattle.desk.specs.Told.{beginTold, abandonTold, publishTold}
 use Rattle.desk.specs.declared.begin.BeginReply.{BeginReply}
 use Rattle.desk.specs.declared.abandon.AbandonReply.{AbandonReply}
@@ -50,9 +51,9 @@ use Rattle.listening.specs.Finish.{listenFinishReply}
 use Rattle.listening.specs.Find.{firstMatch, findRefused, findDone, findReply}
 use Rattle.listening.specs.Told.{findTold}
 use Rattle.listening.specs.declared.finding.FindReply.{FindReply}
-use Rattle.history.specs.Call.{Listening, Begin, Read, Finish, Find, Call, begin, read, write, abandon, finish, publish, settle, reclaim, listen}
+use Rattle.history.specs.Call.{Listening, Begin, Read, Finish, Find, Call, begin, read, write, abandon, finish, publish, group, settle, reclaim, listen}
 use Rattle.claims.proofs.Lists.{lists}
-use Rattle.claims.proofs.Rows.{desk-row, lay-row, open-row, recover-row, finish-row, publish-row, settle-row, reclaim-row, read-row, write-row, listen-read-row, listen-finish-row, find-row}
+use Rattle.claims.proofs.Rows.{desk-row, lay-row, open-row, recover-row, finish-row, publish-row, group-row, settle-row, reclaim-row, read-row, write-row, listen-read-row, listen-finish-row, find-row}
 use Rattle.claims.specs.Rules.{listeningCall, storeRules}
 use Rattle.claims.specs.Refusals.{Cause, number, holds, Given, firstRefusal, recoverRow, row, ofImage, given, only, TurnedAway, StoresNothing, Refusals}
 
@@ -150,7 +151,7 @@ listening-turned img d (Find s k) =
     (find-row img d s k) refl (λ j. refl) (λ j. refl) (either findTold (ltb (firstMatch img d s k) (d .n)) _ _ refl refl)
 
 calls : (img : List ℕ) (d : Desk) (c : Call) → CallTurned img d c (storeRules .call img d c .told) (storeRules .call img d c .desk)
-unfolding beginReply beginFault abandonReply abandonFault publishReply readReply writeReply writeRefused finishReply settleReply reclaimReply
+unfolding beginReply beginFault abandonReply abandonFault publishReply groupReply readReply writeReply writeRefused finishReply settleReply reclaimReply
 calls img d (begin s) =
     plain img d (begin s) (λ (r : BeginReply). beginTold (r .answer)) (λ r. r .desk) (beginRefused d) (begun d s)
     (desk-row img d s isIdle) refl (λ k. refl) (λ k. refl) refl
@@ -160,6 +161,9 @@ calls img d (abandon s) =
 calls img d (publish len s) =
     plain img d (publish len s) (λ (r : PublishReply). publishTold (r .answer)) (λ r. r .desk) (publishRefused d) (published img d s)
     (publish-row img d len s) refl (λ k. refl) (λ k. refl) refl
+calls img d (group len set) =
+    plain img d (group len set) (λ (r : PublishReply). publishTold (r .answer)) (λ r. r .desk) (publishRefused d) (grouped img d set)
+    (group-row img d len set) refl (λ k. refl) (λ k. refl) refl
 calls img d (read s r) =
     plain img d (read s r) (λ (x : ReadReply). readTold (x .answer) (x .words)) (λ x. x .desk) (readRefused d) (readDone img d s r)
     (read-row img d s r) refl (λ k. refl) (λ k. refl) (read-takes img d s r)
@@ -193,6 +197,7 @@ calls-store img d (read s r) n = no-stores
 calls-store img d (write s r ws) n = no-stores
 calls-store img d (abandon s) n = no-stores
 calls-store img d (publish len s) n = stores-nothing (publish-row img d len s) (lists .publish img d len s) n
+calls-store img d (group len set) n = stores-nothing (group-row img d len set) (lists .group img d len set) n
 calls-store img d (finish len s) n = stores-nothing (finish-row img d len s) (lists .finish img d len s) n
 calls-store img d (settle len s) n = stores-nothing (settle-row img d len s) (lists .settle img d len s) n
 calls-store img d (reclaim len s) n = stores-nothing (reclaim-row img d len s) (lists .reclaim img d len s) n

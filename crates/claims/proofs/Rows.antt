@@ -7,7 +7,7 @@ use native.Mathlib.Omega.{arith}
 use lib.Dec.{leb, ltb, eqb, leb·suc-suc, eqb·suc-zero}
 use lib.ListN.{length}
 use borrow.Author.Tests.{leb-true, leb-false, lt-ltb, le-ltb, eqb-true, eqb-false, ne-eqb, le-leb, ltb-true}
-use Rattle.layout.specs.Below.{anyBelow, lowest}
+use Rattle.layout.specs.Below.{allBelow, anyBelow, lowest}
 use Rattle.layout.specs.Checks.{unless, first, roomFor}
 use Rattle.layout.specs.Image.{recordsOf, ceilingOf, inRange, sizeOf, shapedB, occupiedB}
 use Rattle.layout.specs.Lay.{layFault}
@@ -18,6 +18,7 @@ use Rattle.desk.specs.Coherent.{limit, coherentB, placeHas}
 use Rattle.desk.specs.Desk.{sessionAt, markAt, copiedRec, isActive, isSealed, isPublished}
 use Rattle.desk.specs.Entering.{sessionFault, deskFault, agreesB, entryFault, imageFault}
 use Rattle.desk.specs.Publish.{publishFault}
+use Rattle.desk.specs.Group.{member, storeFault, memberLow, memberSealed, setFault, groupFault}
 use Rattle.desk.specs.declared.state.Phase.{Phase}
 use Rattle.desk.specs.declared.state.Session.{Session}
 use Rattle.desk.specs.declared.state.Desk.{Desk}
@@ -36,9 +37,9 @@ use Rattle.reels.specs.Reel.{shelfB}
 use Rattle.listening.specs.Listener.{noCopies, listenerFault}
 use Rattle.listening.specs.Read.{listenReadFault}
 use Rattle.listening.specs.Find.{findFault}
-use Rattle.history.specs.Call.{Read, Finish, Find, read, write, finish, publish, settle, reclaim}
+use Rattle.history.specs.Call.{Read, Finish, Find, read, write, finish, publish, group, settle, reclaim}
 use Rattle.claims.specs.Refusals.{Cause, wrongImage, wrongLength, incoherent, otherHeader, shortTrace, noSession, noRecord, wrongPhase}
-use Rattle.claims.specs.Refusals.{otherHolds, fifthRecord, slotsFull, clockAtLimit, ceilingAtLimit, slotOccupied, logUnsound, logsTied, outOfRange, wrongShelf, copiesHeld}
+use Rattle.claims.specs.Refusals.{otherHolds, fifthRecord, slotsFull, clockAtLimit, ceilingAtLimit, slotOccupied, logUnsound, logsTied, outOfRange, wrongShelf, copiesHeld, noMembers, memberAbove, memberUnsealed}
 use Rattle.claims.specs.Refusals.{Given, number, markedOwn, unsoundAt, tiedAt, holds, firstRefusal, layRow, openRow, recoverRow, listeningRow, row, ofImage, ofCall, givenListening, given}
 use Rattle.claims.proofs.Abstraction.{lowest-is}
 
@@ -66,6 +67,9 @@ refuses logsTied rest = refl
 refuses outOfRange rest = refl
 refuses wrongShelf rest = refl
 refuses copiesHeld rest = refl
+refuses noMembers rest = refl
+refuses memberAbove rest = refl
+refuses memberUnsealed rest = refl
 
 module _ (g : Given) where
   -- a check is a row of one cause
@@ -130,22 +134,22 @@ desk-row img d s allows =
     (joined g (incoherent ∷ []) (noSession ∷ []) (asks g incoherent (coherentB d) refl) (λ z. asks g noSession (ltb s (d .m)) (leb-not (d .m) s)))
     (λ z. asks g wrongPhase (allows (sessionAt d s .phase)) refl)
 
+-- check 2 has two causes
+two-row : (g : Given) → unless (coherentB (g .desk) && agreesB (g .image) (g .desk .clock) (g .desk .n) (g .desk .m)) 2 ≡ firstRefusal (incoherent ∷ otherHeader ∷ []) g
+unfolding holds first
+two-row g =
+    let agrees = agreesB (g .image) (g .desk .clock) (g .desk .n) (g .desk .m) in
+    go (coherentB (g .desk)) agrees
+    ∙ joined g (incoherent ∷ []) (otherHeader ∷ []) (asks g incoherent (coherentB (g .desk)) refl) (λ z. asks g otherHeader agrees refl)
+  where
+    go : (a b : Bool) → unless (a && b) 2 ≡ first (unless a 2) (unless b 2)
+    go true b = refl
+    go false b = refl
+
 -- the calls that take an image
 module _ (img : List ℕ) (d : Desk) (len s r k : ℕ) (allows : Phase → Bool) where
   abbrev g : Given
   g = ofCall img d len s r k allows
-
-  -- check 2 has two causes
-  coherent-row : unless (coherentB d && agreesB img (d .clock) (d .n) (d .m)) 2 ≡ firstRefusal (incoherent ∷ otherHeader ∷ []) g
-  unfolding holds first
-  coherent-row =
-      go (coherentB d) (agreesB img (d .clock) (d .n) (d .m))
-      ∙ joined g (incoherent ∷ []) (otherHeader ∷ []) (asks g incoherent (coherentB d) refl)
-      (λ z. asks g otherHeader (agreesB img (d .clock) (d .n) (d .m)) refl)
-    where
-      go : (a b : Bool) → unless (a && b) 2 ≡ first (unless a 2) (unless b 2)
-      go true b = refl
-      go false b = refl
 
   -- xs is the cause of check 3, of a call that makes it
   image-row : (room : Bool) (xs : List Cause) → unless room 3 ≡ firstRefusal xs g
@@ -153,7 +157,7 @@ module _ (img : List ℕ) (d : Desk) (len s r k : ℕ) (allows : Phase → Bool)
   unfolding entryFault holds
   image-row room xs e =
       joined g (wrongImage ∷ []) (incoherent ∷ otherHeader ∷ (xs ++ (noSession ∷ []))) (asks g wrongImage (shapedB img) refl)
-      (λ z. joined g (incoherent ∷ otherHeader ∷ []) (xs ++ (noSession ∷ [])) coherent-row
+      (λ z. joined g (incoherent ∷ otherHeader ∷ []) (xs ++ (noSession ∷ [])) (two-row g)
       (λ z. joined g xs (noSession ∷ []) e (λ z. asks g noSession (ltb s (d .m)) (leb-not (d .m) s))))
 
   -- finish, publish, settle and reclaim: checks 1 to 4
@@ -220,6 +224,37 @@ publish-row img d len s =
     let g = given img d (publish len s) in
     joined g (wrongImage ∷ incoherent ∷ otherHeader ∷ shortTrace ∷ noSession ∷ []) (wrongPhase ∷ []) (traced-row img d len s 0 0 isSealed)
     (λ z. asks g wrongPhase (isSealed (sessionAt d s .phase)) refl)
+
+-- ---- a set
+
+-- some number fails a test just where not all pass it
+some-fails : (p q : ℕ → Bool) → ((u : ℕ) → q u ≡ not (p u)) → (n : ℕ) → anyBelow n q ≡ not (allBelow n p)
+unfolding anyBelow allBelow
+some-fails p q e zero = refl
+some-fails p q e (suc n) = rw (e n) (go (anyBelow n q) (allBelow n p) (p n) (some-fails p q e n))
+  where
+    go : (a b c : Bool) → a ≡ not b → (a || not c) ≡ not (b && c)
+    go a true c h = rw h refl
+    go a false c h = rw h refl
+
+-- a member that fails a test
+member-fails : (a b c : Bool) → c ≡ not b → (a && c) ≡ not (not a || b)
+member-fails true b c e = e
+member-fails false b c e = refl
+
+pub group-row : (img : List ℕ) (d : Desk) (len set : ℕ) → groupFault img d len set ≡ firstRefusal (row (group len set)) (given img d (group len set))
+unfolding groupFault storeFault setFault holds
+group-row img d len set =
+    let g = given img d (group len set) in
+    joined g (wrongImage ∷ incoherent ∷ otherHeader ∷ shortTrace ∷ []) (noMembers ∷ memberAbove ∷ memberUnsealed ∷ [])
+    (joined g (wrongImage ∷ []) (incoherent ∷ otherHeader ∷ shortTrace ∷ []) (asks g wrongImage (shapedB img) refl)
+    (λ z. joined g (incoherent ∷ otherHeader ∷ []) (shortTrace ∷ []) (two-row g) (λ y. asks g shortTrace (roomFor len) (room-not len))))
+    (λ z. joined g (noMembers ∷ []) (memberAbove ∷ memberUnsealed ∷ []) (asks g noMembers (anyBelow 16 (λ s. member s set)) refl)
+    (λ y. joined g (memberAbove ∷ []) (memberUnsealed ∷ [])
+    (asks g memberAbove (allBelow 16 (memberLow d set))
+    (some-fails (memberLow d set) _ (λ u. member-fails (member u set) (ltb u (d .m)) (leb (d .m) u) (leb-not (d .m) u)) 16))
+    (λ x. asks g memberUnsealed (allBelow 16 (memberSealed d set))
+    (some-fails (memberSealed d set) _ (λ u. member-fails (member u set) (isSealed (sessionAt d u .phase)) (not (isSealed (sessionAt d u .phase))) refl) 16))))
 
 pub reclaim-row : (img : List ℕ) (d : Desk) (len s : ℕ) → reclaimFault img d len s ≡ firstRefusal (row (reclaim len s)) (given img d (reclaim len s))
 unfolding reclaimFault

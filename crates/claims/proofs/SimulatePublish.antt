@@ -1,8 +1,12 @@
 -- Publish does what is due: the clock goes on by one, and the ceiling is raised where it would pass it.
 use Prim.Native.Nat.{ℕ, suc, _+_, _<_}
-use mathlib.Core.Path.{_≡_, refl}
+use mathlib.Core.Bool.{cond}
+use mathlib.Core.Path.{_≡_, refl, sym, ap, _∙_, fun-ext}
 use mathlib.Core.List.{List}
 use native.Mathlib.Numerals.{add-one}
+use lib.Dec.{eqb}
+use borrow.Author.Tests.{eqb-true}
+use Rattle.layout.proofs.Says.{by-test}
 use Rattle.layout.specs.Ceiling.{passEntries}
 use Rattle.layout.specs.Checks.{unless, answered}
 use Rattle.layout.specs.Image.{ceilingOf}
@@ -15,12 +19,22 @@ use Rattle.desk.specs.declared.state.Session.{Session}
 use Rattle.desk.specs.declared.state.Desk.{Desk}
 use Rattle.desk.specs.declared.publish.PublishReply.{PublishReply}
 use Rattle.history.specs.Call.{publish}
+use Rattle.history.specs.Desk.{Session as Txn, Desk as Txns, upd, withSession}
 use Rattle.history.specs.Due.{publishes, dueOf}
 use Rattle.history.specs.History.{History}
+use Rattle.history.specs.Ledger.{endedWith, ticked, endedAll}
 use Rattle.claims.proofs.Abstraction.{abs, copiesOf, txn-of, abs-put}
 use Rattle.claims.proofs.Entering.{session-there}
 use Rattle.claims.proofs.Simulation.{Sim, Ready}
 use Rattle.claims.proofs.SimulateChecks.{Checked, Does, does-refuse, past-four}
+
+-- an end for session s alone
+one-ended : (s : ℕ) (x : Txn) (e : ℕ) (D : Txns) → endedWith e (D .session s) ≡ x → withSession s x D ≡ endedAll (λ u. eqb u s) e D
+unfolding upd
+one-ended s x e D q = ap (λ (f : ℕ → Txn). record { clock = D .clock; session = f }) (fun-ext here)
+  where
+    here : (u : ℕ) → cond (eqb u s) x (D .session u) ≡ cond (eqb u s) (endedWith e (D .session u)) (D .session u)
+    here u = by-test (eqb u s) (λ y. rw (y, eqb-true u s y) (sym q)) (λ y. rw y refl)
 
 abbrev publish-call : (img : List ℕ) (d : Desk) (f : ℕ → ℕ) (len s : ℕ) → Checked d f
 publish-call img d f len s =
@@ -51,7 +65,10 @@ module _ (N M : ℕ) (img : List ℕ) (d : Desk) (f : ℕ → ℕ) (len s : ℕ)
       record {
         answers = rw add-one;
         stored = rw add-one;
-        desk = rw (add-one, i) (abs-put d (suc (d .clock)) (d .n) (d .m) s (withPhase e (Published (suc (d .clock)))) (d .holders) (session-there N M img d h s l));
+        desk =
+            rw add-one
+            (abs-put d (suc (d .clock)) (d .n) (d .m) s (withPhase e (Published (suc (d .clock)))) (d .holders) (session-there N M img d h s l)
+            ∙ one-ended s _ (suc (d .clock)) (ticked (abs d)) (rw i refl));
       }
   by-phase (Published n) i = does-refuse d f (publish-call img d f len s) 5
 

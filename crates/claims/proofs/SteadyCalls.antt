@@ -65,13 +65,13 @@ fresh-steady clock n m c-low c-high n-low n-high m-low m-high =
     idle s l = getD-replicate 16 s idleSession noSession l
 
 -- what holds of a call's refusal and of what it does holds of its answer
-by-answer : {A : Type 0} (P : A → Type 0) (k : ℕ) (f : ℕ → A) (a : A) → P (f k) → (k ≡ 0 → P a) → P (answered k f a)
+pub by-answer : {A : Type 0} (P : A → Type 0) (k : ℕ) (f : ℕ → A) (a : A) → P (f k) → (k ≡ 0 → P a) → P (answered k f a)
 unfolding answered
 by-answer P zero f a refused done = done refl
 by-answer P (suc k) f a refused done = refused
 
 -- the desk as it was
-unchanged : (d : Desk) → Steady d → Kept d d
+pub unchanged : (d : Desk) → Steady d → Kept d d
 unchanged d h = record { steady = h; n-same = refl; m-same = refl }
 
 -- begin puts the session into another phase

@@ -5,7 +5,7 @@ use mathlib.Core.Bool.{Bool, true, false, cond}
 use mathlib.Core.List.{List, [], _∷_, _++_}
 use native.Mathlib.Omega.{arith}
 use Rattle.layout.specs.Told.{Told, is, valueOf, Sealed}
-use Rattle.history.specs.Call.{Call, begin, read, write, abandon, finish, publish, settle, reclaim, listen}
+use Rattle.history.specs.Call.{Call, begin, read, write, abandon, finish, publish, group, settle, reclaim, listen}
 use Rattle.history.specs.Cut.{numberArrived, feedCut}
 use Rattle.history.specs.Desk.{Desk}
 use Rattle.history.specs.Due.{due}
@@ -30,7 +30,7 @@ stays-then : {K L M : Ledger} → Stays K L → Stays L M → Stays K M
 stays-then a b = record { clock = omega (arith, a .clock, b .clock); views = λ σ r l. b .views σ r (omega (arith, a .clock)) ∙ a .views σ r l }
 
 -- one call
-step-stays : (N M : ℕ) (w : World) → Along N M w → (c : Call) → Stays (w .ledger) (step storeRules w c .ledger)
+pub step-stays : (N M : ℕ) (w : World) → Along N M w → (c : Call) → Stays (w .ledger) (step storeRules w c .ledger)
 unfolding step note
 step-stays N M w a c =
     from (subst (λ (t : Told). Then t (w .ledger .number)) (sym (same N M w a c .answers))
@@ -60,6 +60,7 @@ cut-view N d (read s u) t img h σ r = refl
 cut-view N d (write s u ws) t img h σ r = refl
 cut-view N d (abandon s) t img h σ r = refl
 cut-view N d (publish len s) t img h σ r = refl
+cut-view N d (group len set) t img h σ r = refl
 cut-view N d (settle len s) t img h σ r = refl
 cut-view N d (reclaim len s) t img h σ r = refl
 cut-view N d (listen c) t img h σ r = refl

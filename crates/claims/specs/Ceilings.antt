@@ -35,7 +35,7 @@ pub record Keeps (es : List Entry) (img : List ℕ) : Type 0 where
   pub whole : ceilingOf (made es img) ≡ ceilingOf img
   pub cut : (k : ℕ) (sel : ℕ → Bool) → ceilingOf (crashed k sel es img) ≡ ceilingOf img
 
--- what opening and publish store there say OpeningStores and PublishStores
+-- what opening, publish and a group store there say OpeningStores, PublishStores and GroupStores
 pub record CeilingKept : Type 0 where
   -- lay writes 0, and what is laid opens
   pub lay : (n m : ℕ) (img : List ℕ) → layAnswer n m img ≡ Laid → ceilingOf (laidImage n m img) ≡ 0

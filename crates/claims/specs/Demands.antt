@@ -10,7 +10,7 @@ use Rattle.layout.specs.Image.{recordsOf, sessionsOf, ceilingOf, homeWords}
 use Rattle.layout.specs.Told.{Told, refusal, ok, endedAt, clean, foundAt, isRefusal, is, valueOf, wordsTold, Copy, Home, None, Found}
 use Rattle.desk.specs.Coherent.{limit}
 use Rattle.desk.specs.declared.state.Desk.{Desk}
-use Rattle.history.specs.Call.{Listening, Begin, Read, Finish, Find, Call, begin, read, write, abandon, finish, publish, settle, reclaim, listen}
+use Rattle.history.specs.Call.{Listening, Begin, Read, Finish, Find, Call, begin, read, write, abandon, finish, publish, group, settle, reclaim, listen}
 use Rattle.history.specs.Cut.{feedCut}
 use Rattle.history.specs.Due.{raiseStores, passStores, due, fourWords}
 use Rattle.history.specs.History.{History, recordOf, viewAt}
@@ -117,6 +117,7 @@ module _ (h : History) (N : ℕ) (L : Ledger) where
   CallRight (abandon s) y = Unit {0}
   CallRight (finish len s) y = Unit {0}
   CallRight (publish len s) y = Unit {0}
+  CallRight (group len set) y = Unit {0}
   CallRight (settle len s) y = Unit {0}
   CallRight (reclaim len s) y = Unit {0}
   CallRight (listen c) y = ListeningRight c y

@@ -4,24 +4,29 @@
 use Prim.Native.Nat.{ℕ, zero, suc, _+_, _-_}
 use mathlib.Core.Bool.{Bool, _&&_, _||_, not, cond}
 use mathlib.Core.List.{List, [], _∷_, _++_}
-use lib.ListN.{length, getD}
+use lib.ListN.{length, getD, set as put}
 use lib.Dec.{eqb, leb, ltb}
-use Rattle.layout.specs.Below.{allBelow, lowest}
+use Rattle.layout.specs.Below.{allBelow, anyBelow, countBelow, lowest}
+use Rattle.layout.specs.Ceiling.{passEntries}
 use Rattle.layout.specs.Entries.{Entry, store, fence}
 use Rattle.layout.specs.Image.{recordsOf, homeWords, slotAt, persistAt, occupiedAt}
 use Rattle.layout.specs.Oldest.{oldestOf}
 use Rattle.layout.specs.Tidy.{Tidy}
-use Rattle.layout.specs.Told.{Told, refused, result, refusal, copied, home, wait, nothing, held, cleared, clean, replayed, foundAt, is, isRefusal, wordsTold, Ok, Home, Wait, Held}
-use Rattle.desk.specs.Desk.{sessionAt, markAt, copyAt, isSealed, isPublished}
-use Rattle.desk.specs.Publish.{publishFault}
+use Rattle.layout.specs.Told.{Told, refused, result, refusal, copied, home, wait, nothing, held, cleared, clean, replayed, foundAt, is, isRefusal, refusedBy, wordsTold, Ok, Copy, Home, Wait, Held}
+use Rattle.desk.specs.Desk.{noSession, sessionAt, markAt, copyAt, isSealed, isPublished, withPhase, changed}
+use Rattle.desk.specs.Publish.{ends, publishFault}
+use Rattle.desk.specs.Group.{member}
+use Rattle.desk.specs.Told.{publishTold}
+use Rattle.desk.specs.declared.state.Phase.the-variants.{Published}
+use Rattle.desk.specs.declared.state.Session.{Session}
 use Rattle.desk.specs.declared.state.Desk.{Desk}
 use Rattle.snapshot.specs.Own.{ownPlace, zeroWords}
-use Rattle.snapshot.specs.Read.{holderEntry}
+use Rattle.snapshot.specs.Read.{startOf, holderEntry}
 use Rattle.commit.specs.Finish.{finishFault}
-use Rattle.commit.specs.Settle.{startsFor}
+use Rattle.commit.specs.Settle.{endOf, startsFor}
 use Rattle.commit.specs.Reclaim.{chosen, clearEntries}
 use Rattle.recovery.specs.Recover.{slotsOf, cleanB, firstLog, replayEntries}
-use Rattle.history.specs.Call.{Listening, Begin, Read, Finish, Find, Call, begin, read, write, abandon, finish, publish, settle, reclaim, listen}
+use Rattle.history.specs.Call.{Listening, Begin, Read, Finish, Find, Call, begin, read, write, abandon, finish, publish, group, settle, reclaim, listen}
 use Rattle.claims.specs.Rules.{Reply, Recovery, Rules, tells, searching, storeRules}
 use Rattle.claims.specs.Demands.{Demand2, OpeningStores, PublishStores, Demand3}
 use Rattle.claims.specs.Fresh.{Fresh}
@@ -44,6 +49,7 @@ kindOf (publish len s) = 5
 kindOf (settle len s) = 6
 kindOf (reclaim len s) = 7
 kindOf (abandon s) = 8
+kindOf (group len set) = 20
 kindOf (listen c) = listeningKind c
 
 abbrev pub listenerOf : Listening → ℕ
@@ -52,6 +58,7 @@ listenerOf (Read s r) = s
 listenerOf (Finish len s) = s
 listenerOf (Find s k) = s
 
+-- the session of a call; 16, which is none, for a group
 abbrev pub sessionOf : Call → ℕ
 sessionOf (begin s) = s
 sessionOf (read s r) = s
@@ -61,6 +68,7 @@ sessionOf (publish len s) = s
 sessionOf (settle len s) = s
 sessionOf (reclaim len s) = s
 sessionOf (abandon s) = s
+sessionOf (group len set) = 16
 sessionOf (listen c) = listenerOf c
 
 -- what a call gives on an image and a desk, from what the store gives
@@ -225,6 +233,7 @@ recordRead (publish len s) = 0
 recordRead (settle len s) = 0
 recordRead (reclaim len s) = 0
 recordRead (abandon s) = 0
+recordRead (group len set) = 0
 recordRead (listen c) = 0
 
 abbrev pub sealedCopy : Desk → ℕ → Told
@@ -275,6 +284,7 @@ sought (publish len s) = 0
 sought (settle len s) = 0
 sought (reclaim len s) = 0
 sought (abandon s) = 0
+sought (group len set) = 0
 sought (listen c) = soughtListening c
 
 -- what is told of record r, by the store's read and by the home record alone
@@ -330,6 +340,95 @@ clockAlone [] = []
 clockAlone (store i w ∷ es) = store i (w - 1024) ∷ clockAlone es
 clockAlone (fence ∷ es) = fence ∷ clockAlone es
 
+-- ---- impostors that break document 02's Req 06
+
+-- the set of a group
+abbrev pub setOf : Call → ℕ
+setOf (begin s) = 0
+setOf (read s r) = 0
+setOf (write s r ws) = 0
+setOf (finish len s) = 0
+setOf (publish len s) = 0
+setOf (settle len s) = 0
+setOf (reclaim len s) = 0
+setOf (abandon s) = 0
+setOf (group len set) = set
+setOf (listen c) = 0
+
+-- the members one after the other, each with an end of its own, whatever is told of it
+unfoldable pub oneByOne : Desk → ℕ → ℕ → Desk
+oneByOne d set zero = d
+oneByOne d set (suc s) =
+    let x = oneByOne d set s in
+    cond (member s set) (changed x s (withPhase (sessionAt x s) (Published (x .clock + 1))) (x .clock + 1) (x .holders)) x
+
+abbrev pub inTurn : (Told → Told) → Change
+inTurn f img d c y =
+    record { told = f (y .told); entries = y .entries; count = y .count; desk = oneByOne d (setOf c) 16; looks = y .looks }
+
+abbrev pub endsInTurn : (Told → Told) → Rules
+endsInTurn f = past 20 (inTurn f)
+
+-- all members with one end, but the clock goes on by their number
+abbrev pub tickingForEach : Change
+tickingForEach img d c y =
+    record {
+      told = y .told;
+      entries = y .entries;
+      count = y .count;
+      desk =
+          record {
+            clock = d .clock + countBelow 16 (λ s. member s (setOf c));
+            n = y .desk .n;
+            m = y .desk .m;
+            holders = y .desk .holders;
+            sessions = y .desk .sessions;
+          };
+      looks = y .looks;
+    }
+
+abbrev pub ticksForEach : Rules
+ticksForEach = past 20 tickingForEach
+
+-- the end is told, and given to the first member alone
+abbrev pub firstAlone : Change
+firstAlone img d c y = storeRules .call img d (publish 48 (lowest 16 (λ s. member s (setOf c))))
+
+abbrev pub endsFirstAlone : Rules
+endsFirstAlone = past 20 firstAlone
+
+-- what the others wrote is shown only to readers that begin after a later publish: to one whose start is the end, where a lower session
+-- has that end too, the home record
+abbrev pub sharedBelow : Desk → ℕ → Bool
+sharedBelow d r = anyBelow (markAt d r - 1) (λ u. eqb (endOf (sessionAt d u .phase)) (endOf (holderEntry d r .phase)))
+
+abbrev pub startIsEnd : Desk → ℕ → ℕ → Bool
+startIsEnd d s r = eqb (startOf (sessionAt d s .phase)) (endOf (holderEntry d r .phase))
+
+abbrev pub showingLater : Change
+showingLater img d c y =
+    cond (is Copy (y .told) && (startIsEnd d (sessionOf c) (recordRead c) && sharedBelow d (recordRead c)))
+    (tells (home (homeWords img (recordRead c))) d) y
+
+abbrev pub showsLater : Rules
+showsLater = past 2 showingLater
+
+-- a set that the store refuses with k: its sealed members are published, whatever is told of it
+unfoldable pub sealedOnes : List Session → ℕ → ℕ → ℕ → List Session
+sealedOnes xs set e zero = xs
+sealedOnes xs set e (suc s) =
+    let ys = sealedOnes xs set e s in
+    cond (member s set && isSealed (getD ys s noSession .phase)) (put ys s (withPhase (getD ys s noSession) (Published e))) ys
+
+abbrev pub publishingSome : ℕ → (Told → Told) → Change
+publishingSome k f img d c y =
+    let z = ends img d (sealedOnes (d .sessions) (setOf c) (d .clock + 1) 16) in
+    cond (eqb (kindOf c) 20 && refusedBy k (y .told))
+    (record { told = f (publishTold (z .answer)); entries = passEntries img (d .clock + 1); count = z .entries; desk = z .desk; looks = y .looks }) y
+
+abbrev pub publishesSome : ℕ → (Told → Told) → Rules
+publishesSome k f = changing (publishingSome k f)
+
 -- ---- the claim
 
 pub record Impostors : Type 0 where
@@ -364,6 +463,16 @@ pub record Impostors : Type 0 where
   pub looks-home : Demand3 (findsBy asHome firstEnd) → ⊥
   pub looks-last : Demand3 (findsBy asRead lastEnd) → ⊥
   pub looks-early : Demand3 (findsBy asRead earlyEnd) → ⊥
+  -- a set published one after the other, whatever is told; the clock moved for each member; the end for the first member alone; what
+  -- the others wrote shown only after a later publish; the sealed members of a set with one that is not, or with one at M, and the clock
+  -- moved for the empty set, whatever is told
+  pub ends-in-turn : (f : Told → Told) → Demand2 (endsInTurn f) → ⊥
+  pub ticks-for-each : Demand2 ticksForEach → ⊥
+  pub ends-first-alone : Demand2 endsFirstAlone → ⊥
+  pub shows-later : Demand2 showsLater → ⊥
+  pub publishes-sealed : (f : Told → Told) → Demand2 (publishesSome 6 f) → ⊥
+  pub publishes-low : (f : Told → Told) → Demand2 (publishesSome 4 f) → ⊥
+  pub publishes-none : (f : Told → Told) → Demand2 (publishesSome 19 f) → ⊥
   -- word 3 stored without its fence, not stored at all, and stored too low by opening; a publish that does not raise, and one that leaves
   -- out the fence of its raise
   pub opens-unfenced : Fresh (openingBy withoutLast) → ⊥

@@ -6,6 +6,7 @@ pub mod Demands
 pub mod Lives
 pub mod Fresh
 pub mod Ceilings
+pub mod Together
 pub mod Refusals
 pub mod Lists
 pub mod Impostors

@@ -9,6 +9,7 @@ use Rattle.journal.specs.Lengths.{finishLength, settleLength, recoverLength}
 use Rattle.journal.specs.Log.{countOf}
 use Rattle.desk.specs.Desk.{sessionAt}
 use Rattle.desk.specs.Publish.{publishFault, publishEntries, publishReply}
+use Rattle.desk.specs.Group.{groupFault, groupEntries, groupReply}
 use Rattle.desk.specs.declared.state.Desk.{Desk}
 use Rattle.commit.specs.Finish.{finishFault, finishEntries, sealEntries, finishReply}
 use Rattle.commit.specs.Settle.{settleFault, settleEntries, goHomeEntries, settleReply}
@@ -23,6 +24,8 @@ pub record Lists : Type 0 where
       → Tidy (finishFault img d len s) (finishReply img d len s .entries) (finishEntries img d len s)
   pub publish : (img : List ℕ) (d : Desk) (len s : ℕ)
       → Tidy (publishFault img d len s) (publishReply img d len s .entries) (publishEntries img d len s)
+  pub group : (img : List ℕ) (d : Desk) (len set : ℕ)
+      → Tidy (groupFault img d len set) (groupReply img d len set .entries) (groupEntries img d len set)
   pub settle : (img : List ℕ) (d : Desk) (len s : ℕ)
       → Tidy (settleFault img d len s) (settleReply img d len s .entries) (settleEntries img d len s)
   pub reclaim : (img : List ℕ) (d : Desk) (len s : ℕ)

@@ -15,7 +15,7 @@ use Rattle.reels.specs.Write.{writeReelReply}
 use Rattle.reels.specs.declared.reel.Reel.{Reel}
 use Rattle.reels.specs.declared.unpacking.ReelAnswer.the-variants.{Found}
 use Rattle.reels.specs.declared.reading.ReadReelReply.{ReadReelReply}
-use Rattle.history.specs.Call.{Listening, Begin, Read, Finish, Find, Call, begin, read, write, abandon, finish, publish, settle, reclaim, listen}
+use Rattle.history.specs.Call.{Listening, Begin, Read, Finish, Find, Call, begin, read, write, abandon, finish, publish, group, settle, reclaim, listen}
 use Rattle.claims.specs.Rules.{storeRules}
 use Rattle.claims.specs.Run.{World, opened, run}
 
@@ -34,6 +34,7 @@ besides s r (write t q ws) = not (eqb t s && eqb q r)
 besides s r (abandon t) = true
 besides s r (finish len t) = true
 besides s r (publish len t) = true
+besides s r (group len set) = true
 besides s r (settle len t) = true
 besides s r (reclaim len t) = true
 besides s r (listen c) = besidesListening s c

@@ -1,4 +1,4 @@
--- Document 01, "What is turned away", with document 02's Req 03 and 05, as one table: the causes with their numbers, and
+-- Document 01, "What is turned away", with document 02's Req 03, 05 and 06, as one table: the causes with their numbers, and
 -- for each call the row of causes that it asks, in order. The number told is that of the first cause in the row that holds, 0 where none
 -- does; with it go the values that the table lists, and a refusal leaves as it was what the table says.
 use Prim.Native.Nat.{ℕ, _+_, _-_, _*_}
@@ -14,6 +14,7 @@ use Rattle.layout.specs.Lay.{layAnswer, laidImage}
 use Rattle.layout.specs.Told.{Told, refused, isRefusal, layTold}
 use Rattle.journal.specs.Log.{unsoundB, tiedB}
 use Rattle.desk.specs.Coherent.{limit, coherentB}
+use Rattle.desk.specs.Group.{member}
 use Rattle.desk.specs.Desk.{sessionAt, markAt, isIdle, isActive, isSealed, isPublished, dropped}
 use Rattle.desk.specs.declared.state.Phase.{Phase}
 use Rattle.desk.specs.declared.state.Desk.{Desk}
@@ -22,7 +23,7 @@ use Rattle.snapshot.specs.Read.{readReply}
 use Rattle.reels.specs.Reel.{shelfB}
 use Rattle.listening.specs.Read.{listenReadReply}
 use Rattle.recovery.specs.Open.{freshDesk}
-use Rattle.history.specs.Call.{Listening, Begin, Read, Finish, Find, Call, begin, read, write, abandon, finish, publish, settle, reclaim, listen}
+use Rattle.history.specs.Call.{Listening, Begin, Read, Finish, Find, Call, begin, read, write, abandon, finish, publish, group, settle, reclaim, listen}
 use Rattle.claims.specs.Rules.{storeRules}
 
 -- ---- the table's first two columns
@@ -51,6 +52,10 @@ pub data Cause : Type 0 where
   -- document 02: shelf number out of range; the session holds copies
   wrongShelf : Cause
   copiesHeld : Cause
+  -- document 02, Req 06: the set has no members; one is at or above M; one is not sealed
+  noMembers : Cause
+  memberAbove : Cause
+  memberUnsealed : Cause
 
 abbrev pub number : Cause → ℕ
 number wrongImage = 1
@@ -72,6 +77,9 @@ number logsTied = 13
 number outOfRange = 14
 number wrongShelf = 15
 number copiesHeld = 18
+number noMembers = 19
+number memberAbove = 4
+number memberUnsealed = 6
 
 -- what a call is given; a field that it does not take is in no cause of its row
 pub record Given : Type 0 where
@@ -81,6 +89,7 @@ pub record Given : Type 0 where
   pub session : ℕ
   pub rec : ℕ
   pub shelf : ℕ
+  pub set : ℕ
   pub allows : Phase → Bool
   pub n : ℕ
   pub m : ℕ
@@ -129,13 +138,16 @@ holds logsTied g = anyBelow (2 * sessionsOf (g .image)) (λ p. anyBelow p (tiedA
 holds outOfRange g = not (inRange (g .n) (g .m))
 holds wrongShelf g = not (shelfB (g .shelf))
 holds copiesHeld g = not (eqb (copiesCounted g) 0)
+holds noMembers g = not (anyBelow 16 (λ s. member s (g .set)))
+holds memberAbove g = anyBelow 16 (λ s. member s (g .set) && leb (g .desk .m) s)
+holds memberUnsealed g = anyBelow 16 (λ s. member s (g .set) && not (isSealed (sessionAt (g .desk) s .phase)))
 
 -- the number of the first cause that holds, 0 where none does
 unfoldable pub firstRefusal : List Cause → Given → ℕ
 firstRefusal [] g = 0
 firstRefusal (c ∷ row) g = cond (holds c g) (number c) (firstRefusal row g)
 
--- ---- the rows; open asks 10 after 11
+-- ---- the rows; open asks 10 after 11, a group 19 right after 3
 
 abbrev pub layRow : List Cause
 layRow = outOfRange ∷ wrongLength ∷ []
@@ -160,6 +172,7 @@ row (write s r ws) =
 row (abandon s) = incoherent ∷ noSession ∷ wrongPhase ∷ []
 row (finish len s) = wrongImage ∷ incoherent ∷ otherHeader ∷ shortTrace ∷ noSession ∷ wrongPhase ∷ clockAtLimit ∷ []
 row (publish len s) = wrongImage ∷ incoherent ∷ otherHeader ∷ shortTrace ∷ noSession ∷ wrongPhase ∷ []
+row (group len set) = wrongImage ∷ incoherent ∷ otherHeader ∷ shortTrace ∷ noMembers ∷ memberAbove ∷ memberUnsealed ∷ []
 row (settle len s) = wrongImage ∷ incoherent ∷ otherHeader ∷ shortTrace ∷ noSession ∷ wrongPhase ∷ []
 row (reclaim len s) = wrongImage ∷ incoherent ∷ otherHeader ∷ shortTrace ∷ noSession ∷ []
 row (listen c) = listeningRow c
@@ -169,11 +182,16 @@ row (listen c) = listeningRow c
 -- lay, open and recover take no desk, session or record
 abbrev pub ofImage : List ℕ → ℕ → ℕ → ℕ → Given
 ofImage img len n m =
-    record { image = img; desk = freshDesk 0 0 0; trace = len; session = 0; rec = 0; shelf = 0; allows = λ p. true; n = n; m = m }
+    record { image = img; desk = freshDesk 0 0 0; trace = len; session = 0; rec = 0; shelf = 0; set = 0; allows = λ p. true; n = n; m = m }
 
 abbrev pub ofCall : List ℕ → Desk → ℕ → ℕ → ℕ → ℕ → (Phase → Bool) → Given
 ofCall img d len s r k allows =
-    record { image = img; desk = d; trace = len; session = s; rec = r; shelf = k; allows = allows; n = 0; m = 0 }
+    record { image = img; desk = d; trace = len; session = s; rec = r; shelf = k; set = 0; allows = allows; n = 0; m = 0 }
+
+-- a call that takes a set of sessions
+abbrev pub ofSet : List ℕ → Desk → ℕ → ℕ → Given
+ofSet img d len set =
+    record { image = img; desk = d; trace = len; session = 0; rec = 0; shelf = 0; set = set; allows = λ p. true; n = 0; m = 0 }
 
 -- a session call, with the phases that allow it
 abbrev pub givenListening : List ℕ → Desk → Listening → Given
@@ -189,6 +207,7 @@ given img d (write s r ws) = ofCall img d 0 s r 0 isActive
 given img d (abandon s) = ofCall img d 0 s 0 0 isActive
 given img d (finish len s) = ofCall img d len s 0 0 isActive
 given img d (publish len s) = ofCall img d len s 0 0 isSealed
+given img d (group len set) = ofSet img d len set
 given img d (settle len s) = ofCall img d len s 0 0 isPublished
 given img d (reclaim len s) = ofCall img d len s 0 0 (λ p. true)
 given img d (listen c) = givenListening img d c

@@ -7,6 +7,7 @@ use Rattle.layout.specs.Told.{Told}
 use Rattle.desk.specs.Begin.{beginReply}
 use Rattle.desk.specs.Abandon.{abandonReply}
 use Rattle.desk.specs.Publish.{publishReply, publishEntries}
+use Rattle.desk.specs.Group.{groupReply, groupEntries}
 use Rattle.desk.specs.Told.{beginTold, abandonTold, publishTold}
 use Rattle.desk.specs.declared.state.Desk.{Desk}
 use Rattle.snapshot.specs.Read.{readReply}
@@ -23,7 +24,7 @@ use Rattle.listening.specs.Read.{listenReadReply}
 use Rattle.listening.specs.Finish.{listenFinishReply}
 use Rattle.listening.specs.Find.{findFault, findReply, lookedAt, lookGives}
 use Rattle.listening.specs.Told.{findTold}
-use Rattle.history.specs.Call.{Listening, Begin, Read, Finish, Find, Call, begin, read, write, abandon, finish, publish, settle, reclaim, listen}
+use Rattle.history.specs.Call.{Listening, Begin, Read, Finish, Find, Call, begin, read, write, abandon, finish, publish, group, settle, reclaim, listen}
 use Rattle.history.specs.Looks.{Looks, noLooks}
 
 -- what opening gives: what it tells, the entries that it stores, the number of entries that it answers, and the desk
@@ -99,6 +100,14 @@ storeCall img d (publish len s) =
       entries = publishEntries img d len s;
       count = publishReply img d len s .entries;
       desk = publishReply img d len s .desk;
+      looks = noLooks;
+    }
+storeCall img d (group len set) =
+    record {
+      told = publishTold (groupReply img d len set .answer);
+      entries = groupEntries img d len set;
+      count = groupReply img d len set .entries;
+      desk = groupReply img d len set .desk;
       looks = noLooks;
     }
 storeCall img d (settle len s) =

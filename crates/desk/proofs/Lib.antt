@@ -7,4 +7,6 @@ pub mod Sizes
 pub mod Struck
 pub mod Walk
 pub mod PublishLaws
+pub mod GroupLaws
+pub mod GroupDesk
 pub mod ToldLaws

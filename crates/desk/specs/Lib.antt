@@ -5,4 +5,5 @@ pub mod Entering
 pub mod Begin
 pub mod Abandon
 pub mod Publish
+pub mod Group
 pub mod Told

@@ -1,4 +1,4 @@
--- What each answer of begin, abandon and publish tells.
+-- What each answer of begin, abandon and publish, of one session or of a set, tells.
 use Rattle.layout.specs.Told.{Told, refusal, ok, start, endedAt}
 use Rattle.desk.specs.declared.begin.BeginAnswer.{BeginAnswer}
 use Rattle.desk.specs.declared.begin.BeginAnswer.the-variants.{Refused as BeginRefused, Start}

@@ -1,8 +1,10 @@
-// The volatile transaction table, its coherence, the first checks of the calls that take it, and begin, publish and abandon.
+// The volatile transaction table, its coherence, the first checks of the calls that take it, and begin, publish (of one session and of a
+// set) and abandon.
 mod abandon;
 mod begin;
 mod coherence;
 mod entering;
+mod group;
 mod publish;
 mod session;
 mod state;

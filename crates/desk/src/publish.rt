@@ -23,7 +23,7 @@ pub struct PublishReply {
     pub desk: Desk,
 }
 
-fn gives(desk: Desk, answer: PublishAnswer, entries: u64) -> PublishReply
+pub fn gives(desk: Desk, answer: PublishAnswer, entries: u64) -> PublishReply
     ensures { λ r. ⌜ r ≡ record { answer = answer; entries = entries; desk = desk } ⌝ }
 {
     PublishReply {

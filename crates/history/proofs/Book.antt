@@ -2,7 +2,7 @@
 use Prim.Native.Nat.{ℕ, _≤_, _<_}
 use mathlib.Core.Path.{_≡_, refl, sym, ap, _∙_}
 use mathlib.Core.Logic.{_⊎_, inl, inr, _≢_}
-use mathlib.Core.Bool.{Bool, true, false, cond, _||_}
+use mathlib.Core.Bool.{Bool, true, false, cond, not, _&&_, or-true, false≢true}
 use mathlib.Core.Option.{Option, none, some}
 use mathlib.Core.List.{List, [], _∷_, _++_}
 use lib.Dec.{eqb, leb}
@@ -74,75 +74,90 @@ module _ (t : ℕ) (ds : List Copy) (s : ℕ) (cs : List Copy) (n : t ≢ s) (a 
   own-more o (x ∷ xs) (inl e) = inl (e .0, e .1, e .2, without-more xs (e .3))
   own-more o (x ∷ xs) (inr h) = inr (own-more o xs h)
 
--- ---- the end e given to session s's last entry
+-- ---- the end e given to the last entry of each session that passes the test p
 
 without-entered : (s : ℕ) (cs : List Copy) (xs : List Seal) → Without s cs xs → entered s xs ≡ false
 without-entered s cs [] w = refl
 without-entered s cs (x ∷ xs) w = rw (ne-eqb (x .session) s (w .0)) (without-entered s cs xs (w .2))
-
-or-true : (b : Bool) → b || true ≡ true
-or-true true = refl
-or-true false = refl
 
 own-entered : (s : ℕ) (cs : List Copy) (o : Option ℕ) (xs : List Seal) → Own s cs o xs → entered s xs ≡ true
 own-entered s cs o [] h = absurd h
 own-entered s cs o (x ∷ xs) (inl e) = rw (eq-eqb (x .session) s (e .0)) refl
 own-entered s cs o (x ∷ xs) (inr h) = rw (own-entered s cs o xs h) (or-true (eqb (x .session) s))
 
-module _ (s e : ℕ) where
-  -- x ∷ xs with e given to the session's last entry, by whether one of xs is the session's, and whether x is
-  abbrev given : Seal → List Seal → Bool → Bool → List Seal
-  given x xs later own = cond later (x ∷ ended s e xs) (cond own (withEnd e x ∷ xs) (x ∷ xs))
+-- a session's last entry is behind the first of the list, or is the first
+pub own-rest : (s : ℕ) (cs : List Copy) (o : Option ℕ) (x : Seal) (xs : List Seal) → entered s xs ≡ true → Own s cs o (x ∷ xs) → Own s cs o xs
+own-rest s cs o x xs n (inl k) = absurd (false≢true (sym (without-entered s cs xs (k .3)) ∙ n))
+own-rest s cs o x xs n (inr k) = k
 
-  pub ended-last : (xs : List Seal) (r : ℕ) (z : List ℕ) → applied (ended s e xs) r z ≡ applied xs r z
+pub own-here : (s : ℕ) (cs : List Copy) (o : Option ℕ) (x : Seal) (xs : List Seal) → entered s xs ≡ false → Own s cs o (x ∷ xs) → (x .draft ≡ cs) × (x .end ≡ o)
+own-here s cs o x xs n (inl k) = (k .1, k .2)
+own-here s cs o x xs n (inr k) = absurd (false≢true (sym n ∙ own-entered s cs o xs k))
+
+module _ (p : ℕ → Bool) (e : ℕ) where
+  -- x, with the end or not
+  abbrev given : Seal → Bool → Seal
+  given x b = cond b (withEnd e x) x
+
+  pub ended-last : (xs : List Seal) (r : ℕ) (z : List ℕ) → applied (ended p e xs) r z ≡ applied xs r z
   ended-last [] r z = refl
-  ended-last (x ∷ xs) r z = go (entered s xs) (eqb (x .session) s) (ended-last xs r (over (find r (x .draft)) z))
+  ended-last (x ∷ xs) r z = go (p (x .session) && not (entered (x .session) xs)) (ended-last xs r (over (find r (x .draft)) z))
     where
-      go : (later own : Bool) → applied (x ∷ ended s e xs) r z ≡ applied (x ∷ xs) r z → applied (given x xs later own) r z ≡ applied (x ∷ xs) r z
-      go true own ih = ih
-      go false true ih = refl
-      go false false ih = refl
+      go : (b : Bool) → applied (ended p e xs) r (over (find r (x .draft)) z) ≡ applied (x ∷ xs) r z → applied (given x b ∷ ended p e xs) r z ≡ applied (x ∷ xs) r z
+      go true ih = ih
+      go false ih = ih
 
-  pub ended-own : (cs : List Copy) (o : Option ℕ) (xs : List Seal) → Own s cs o xs → Own s cs (some e) (ended s e xs)
-  ended-own cs o [] h = absurd h
-  ended-own cs o (x ∷ xs) (inl k) = rw (without-entered s cs xs (k .3), eq-eqb (x .session) s (k .0)) (inl (k .0, k .1, refl, k .3))
-  ended-own cs o (x ∷ xs) (inr h) = rw (own-entered s cs o xs h) (inr (ended-own cs o xs h))
+  without-ended : (u : ℕ) (cs : List Copy) (xs : List Seal) → Without u cs xs → Without u cs (ended p e xs)
+  without-ended u cs [] w = w
+  without-ended u cs (x ∷ xs) w = go (p (x .session) && not (entered (x .session) xs)) (without-ended u cs xs (w .2))
+    where
+      go : (b : Bool) → Without u cs (ended p e xs) → Without u cs (given x b ∷ ended p e xs)
+      go true ih = (w .0, w .1, ih)
+      go false ih = (w .0, w .1, ih)
+
+  pub ended-own : (s : ℕ) → p s ≡ true → (cs : List Copy) (o : Option ℕ) (xs : List Seal) → Own s cs o xs → Own s cs (some e) (ended p e xs)
+  ended-own s y cs o [] h = absurd h
+  ended-own s y cs o (x ∷ xs) (inl k) = rw last (inl (k .0, k .1, refl, without-ended s cs xs (k .3)))
+    where
+      last : (p (x .session) && not (entered (x .session) xs)) ≡ true
+      last = rw (k .0, y, without-entered s cs xs (k .3)) refl
+  ended-own s y cs o (x ∷ xs) (inr h) = inr (ended-own s y cs o xs h)
+
+  pub ended-other : (u : ℕ) → p u ≡ false → (cs : List Copy) (o : Option ℕ) (xs : List Seal) → Own u cs o xs → Own u cs o (ended p e xs)
+  ended-other u n cs o [] h = absurd h
+  ended-other u n cs o (x ∷ xs) (inl k) = rw not-own (inl (k .0, k .1, k .2, without-ended u cs xs (k .3)))
+    where
+      not-own : (p (x .session) && not (entered (x .session) xs)) ≡ false
+      not-own = rw (k .0, n) refl
+  ended-other u n cs o (x ∷ xs) (inr h) = inr (ended-other u n cs o xs h)
+
+  -- the last entries that are given the end have none yet; it is above σ, or they do not have the record r
+  abbrev pub Hidden : ℕ → ℕ → List Seal → Type 0
+  Hidden σ r xs = (u : ℕ) → p u ≡ true → entered u xs ≡ true → (cs : List Copy) × Own u cs none xs × ((σ < e) ⊎ Fresh r cs)
+
+  hidden-rest : (σ r : ℕ) (x : Seal) (xs : List Seal) → Hidden σ r (x ∷ xs) → Hidden σ r xs
+  hidden-rest σ r x xs h u y n = let (cs, k, late) = h u y (rw n (or-true (eqb (x .session) u))) in (cs, own-rest u cs none x xs n k, late)
 
   -- views from before the end, and views of other records, are as they were
-  pub ended-view : (σ : ℕ) (cs : List Copy) (xs : List Seal) → Own s cs none xs → (r : ℕ) → (σ < e) ⊎ Fresh r cs → (z : List ℕ)
-      → appliedBy σ (ended s e xs) r z ≡ appliedBy σ xs r z
-  ended-view σ cs [] h r c z = absurd h
-  ended-view σ cs (x ∷ xs) (inr h) r c z = rw (own-entered s cs none xs h) (ended-view σ cs xs h r c _)
-  ended-view σ cs (x ∷ xs) (inl k) r c z =
-      rw (without-entered s cs xs (k .3), eq-eqb (x .session) s (k .0)) (ap (λ o. appliedBy σ xs r (over o z)) (hidden c ∙ unended))
+  pub ended-view : (σ r : ℕ) (xs : List Seal) → Hidden σ r xs → (z : List ℕ) → appliedBy σ (ended p e xs) r z ≡ appliedBy σ xs r z
+  ended-view σ r [] h z = refl
+  ended-view σ r (x ∷ xs) h z = go (p (x .session)) refl (entered (x .session) xs) refl (ended-view σ r xs (hidden-rest σ r x xs h))
     where
-      unended : none ≡ pick (seen σ (x .end)) r (x .draft)
-      unended = rw (k .2) refl
+      hidden : (cs : List Copy) → x .draft ≡ cs → (σ < e) ⊎ Fresh r cs → pick (leb e σ) r (x .draft) ≡ none
+      hidden cs q (inl l) = rw (lt-leb e σ l) refl
+      hidden cs q (inr f) = pick-none (leb e σ) r (x .draft) (rw q f)
 
-      hidden : (σ < e) ⊎ Fresh r cs → pick (leb e σ) r (x .draft) ≡ none
-      hidden (inl l) = rw (lt-leb e σ l) refl
-      hidden (inr f) = pick-none (leb e σ) r (x .draft) (rw (k .1) f)
+      unended : x .end ≡ none → none ≡ pick (seen σ (x .end)) r (x .draft)
+      unended q = rw q refl
 
-  module _ (u : ℕ) (cs : List Copy) (n : u ≢ s) where
-    without-ended : (xs : List Seal) → Without u cs xs → Without u cs (ended s e xs)
-    without-ended [] w = w
-    without-ended (x ∷ xs) w = go (entered s xs) (eqb (x .session) s) (without-ended xs (w .2))
-      where
-        go : (later own : Bool) → Without u cs (ended s e xs) → Without u cs (given x xs later own)
-        go true own ih = (w .0, w .1, ih)
-        go false true ih = w
-        go false false ih = w
+      picked : entered (x .session) xs ≡ false → (cs : List Copy) × Own (x .session) cs none (x ∷ xs) × ((σ < e) ⊎ Fresh r cs)
+          → pick (leb e σ) r (x .draft) ≡ pick (seen σ (x .end)) r (x .draft)
+      picked n (cs, k, late) = let q = own-here (x .session) cs none x xs n k in hidden cs (q .0) late ∙ unended (q .1)
 
-    pub ended-other : (o : Option ℕ) (xs : List Seal) → Own u cs o xs → Own u cs o (ended s e xs)
-    ended-other o [] h = absurd h
-    ended-other o (x ∷ xs) (inl k) = rw (ne-eqb (x .session) s (λ z. n (sym (k .0) ∙ z))) (go (entered s xs))
-      where
-        go : (later : Bool) → Own u cs o (given x xs later false)
-        go true = inl (k .0, k .1, k .2, without-ended xs (k .3))
-        go false = inl k
-    ended-other o (x ∷ xs) (inr h) = go (entered s xs) (eqb (x .session) s) (ended-other o xs h)
-      where
-        go : (later own : Bool) → Own u cs o (ended s e xs) → Own u cs o (given x xs later own)
-        go true own ih = inr ih
-        go false true ih = inr h
-        go false false ih = inr h
+      go : (own : Bool) → p (x .session) ≡ own → (later : Bool) → entered (x .session) xs ≡ later
+          → ((y : List ℕ) → appliedBy σ (ended p e xs) r y ≡ appliedBy σ xs r y)
+          → appliedBy σ (given x (own && not later) ∷ ended p e xs) r z ≡ appliedBy σ (x ∷ xs) r z
+      go true y true n ih = ih _
+      go true y false n ih =
+          ih _ ∙ ap (λ o. appliedBy σ xs r (over o z)) (picked n (h (x .session) y (rw (eq-eqb (x .session) (x .session) refl) refl)))
+      go false y later n ih = ih _

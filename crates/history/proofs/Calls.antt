@@ -5,7 +5,7 @@ use mathlib.Core.List.{List}
 use lib.ListN.{getD}
 use Rattle.layout.specs.Entries.{made}
 use Rattle.history.specs.Layout.{view}
-use Rattle.history.specs.Call.{Call, begin, read, write, abandon, finish, publish, settle, reclaim, listen}
+use Rattle.history.specs.Call.{Call, begin, read, write, abandon, finish, publish, group, settle, reclaim, listen}
 use Rattle.history.specs.Desk.{Desk}
 use Rattle.history.specs.Due.{Due, dueOf, due}
 use Rattle.history.specs.History.{History}
@@ -16,7 +16,7 @@ use Rattle.history.proofs.KeptRead.{read-done}
 use Rattle.history.proofs.KeptWrite.{write-done}
 use Rattle.history.proofs.KeptAbandon.{abandon-done}
 use Rattle.history.proofs.KeptFinish.{finish-done}
-use Rattle.history.proofs.KeptPublish.{publish-done}
+use Rattle.history.proofs.KeptPublish.{publish-done, group-done}
 use Rattle.history.proofs.KeptSettle.{settle-done}
 use Rattle.history.proofs.KeptReclaim.{reclaim-done}
 use Rattle.history.proofs.KeptListening.{listening-done}
@@ -29,6 +29,7 @@ module _ (N M : ℕ) (img : List ℕ) (d : Desk) (h : History) (H : Holds N M im
   done (abandon s) = abandon-done N M img d h H s
   done (finish len s) = finish-done N M img d h H len s
   done (publish len s) = publish-done N M img d h H len s
+  done (group len set) = group-done N M img d h H len set
   done (settle len s) = settle-done N M img d h H len s
   done (reclaim len s) = reclaim-done N M img d h H len s
   done (listen c) = listening-done N M img d h H c

@@ -15,7 +15,7 @@ use Rattle.layout.specs.Told.{Told, End, is, refusal, empty}
 use Rattle.journal.proofs.LogFacts.{Sound}
 use Rattle.history.specs.Log.{Occupied, Final}
 use Rattle.history.specs.Layout.{body, logOf, view, Good}
-use Rattle.history.specs.Call.{Listening, Begin, Read, Finish, Find, Call, begin, read, write, abandon, finish, publish, settle, reclaim, listen}
+use Rattle.history.specs.Call.{Listening, Begin, Read, Finish, Find, Call, begin, read, write, abandon, finish, publish, group, settle, reclaim, listen}
 use Rattle.history.specs.Cut.{feedCut}
 use Rattle.history.specs.Desk.{Copy, spot, idle, active, Desk, withSession}
 use Rattle.history.specs.Due.{Due, say, refuse, ifRoom, ifSession, ifRecord}
@@ -91,6 +91,7 @@ module _ (N M : ℕ) (img : List ℕ) (d : Desk) (h : History) (H : Holds N M im
   refusing (abandon s) k e = same (abandon s) (refusal k) refl (λ _. refl) refl refl (λ _. refl)
   refusing (finish len s) k e = same (finish len s) (refusal k) refl (λ _. refl) refl refl (λ _. refl)
   refusing (publish len s) k e = same (publish len s) (refusal k) refl (λ _. refl) refl refl (λ _. refl)
+  refusing (group len set) k e = same (group len set) (refusal k) refl (λ _. refl) refl refl (λ _. refl)
   refusing (settle len s) k e = same (settle len s) (refusal k) refl (λ _. refl) refl refl (λ _. refl)
   refusing (reclaim len s) k e = same (reclaim len s) (refusal k) refl (λ _. refl) refl refl (λ _. refl)
   refusing (listen c) k e = refusing-listening c k

@@ -1,86 +1,136 @@
--- Publish keeps the invariant.
+-- Publish keeps the invariant, of one session or of a set.
 use Prim.Native.Nat.{ℕ, suc, _+_, _≤_, _<_}
-use mathlib.Core.Path.{_≡_, refl}
-use mathlib.Core.Logic.{inl}
-use mathlib.Core.Bool.{Bool, true, false, cond, not}
+use mathlib.Core.Path.{_≡_, refl, _∙_, subst, sym}
+use mathlib.Core.Bool.{Bool, true, false, cond, not, false≢true}
 use mathlib.Core.List.{List, []}
 use native.Mathlib.Omega.{arith}
-use lib.Dec.{T, leb, leb→le, nleb→lt}
+use lib.Dec.{T, eqb, leb, leb→le, nleb→lt}
 use lib.ListN.{getD}
 use lib.Seq.{take-nil, getD-set-same}
+use borrow.Author.Tests.{eqb-true}
+use Rattle.layout.specs.Below.{allBelow, anyBelow}
+use Rattle.layout.specs.Crash.{crashed as cut}
 use Rattle.layout.specs.Entries.{Entry, made}
 use Rattle.layout.specs.Told.{endedAt}
+use Rattle.layout.proofs.Says.{says-all, says-then, says-itself, says-lt}
+use Rattle.desk.specs.Group.{member}
+use Rattle.desk.proofs.GroupDesk.{member-small}
 use Rattle.history.specs.Layout.{view}
-use Rattle.history.specs.Call.{publish}
-use Rattle.history.specs.Desk.{Copy, Session, idle, active, sealed, published, Desk, withSession}
-use Rattle.history.specs.Due.{raiseStores, passStores, publishes, dueOf}
-use Rattle.history.specs.History.{History, ending}
-use Rattle.history.specs.Ledger.{ticked}
-use Rattle.history.proofs.Book.{ended-view}
+use Rattle.history.specs.Call.{Call, publish, group}
+use Rattle.history.specs.Cut.{feedCut}
+use Rattle.history.specs.Desk.{Session, idle, active, sealed, published, Desk}
+use Rattle.history.specs.Due.{refuse, raiseStores, ends, publishes, isSealed, lowIn, sealedIn, dueOf}
+use Rattle.history.specs.History.{History, feed, ending}
+use Rattle.history.specs.Ledger.{ticked, endedAll, noteDesk, noteNumber}
 use Rattle.history.proofs.Invariant.{Inv}
-use Rattle.history.proofs.MovePublish.{publishing}
+use Rattle.history.proofs.MovePublish.{Sealed, publishing, before-end}
 use Rattle.history.proofs.MoveRaise.{raise-numbers, raise-above, raise-holds, raise-crashed}
 use Rattle.history.proofs.Slots.{made-one, cut-one}
-use Rattle.history.proofs.Kept.{Holds, Later, crashed, Done, refusing, past-room, past-session}
+use Rattle.history.proofs.Kept.{Holds, Later, Crashed, crashed, Done, refusing, past-room, past-session}
 
-module _ (N M : ℕ) (img : List ℕ) (d : Desk) (h : History) (H : Holds N M img d h) (len s : ℕ) where
-  module _ (l : s < M) (n q : ℕ) (cs : List Copy) (is : d .session s ≡ sealed n q cs) where
-    -- the new clock, and the new ceiling where that passes the old one
+is-sealed : (x : Session) → isSealed x ≡ true → Sealed x
+is-sealed idle e = absurd (false≢true e)
+is-sealed (active b q cs) e = absurd (false≢true e)
+is-sealed (sealed n q cs) e = tt
+is-sealed (published f q cs) e = absurd (false≢true e)
+
+-- past 4 and 6, each member is below M and sealed
+pub members-sealed : (M : ℕ) (d : Desk) (set : ℕ) → allBelow 16 (lowIn M set) ≡ true → allBelow 16 (sealedIn d set) ≡ true
+    → (u : ℕ) → member u set ≡ true → (u < M) × Sealed (d .session u)
+members-sealed M d set low ready u y =
+    let small = member-small u set y in (
+      says-all 16 (λ v. says-then (says-itself (member v set)) (says-lt v M)) .yes low u small y,
+      is-sealed (d .session u) (says-all 16 (λ v. says-then (says-itself (member v set)) (says-itself (isSealed (d .session v)))) .yes ready u small y),
+    )
+
+-- a call that, told the end, publishes the sessions that pass the test
+record Publishes (N : ℕ) (img : List ℕ) (d : Desk) (h : History) (c : Call) (p : ℕ → Bool) : Type 0 where
+  desk : noteDesk c (endedAt (suc (d .clock))) (view N img .number) d ≡ endedAll p (suc (d .clock)) (ticked d)
+  history : feed c (endedAt (suc (d .clock))) h ≡ ending p (suc (d .clock)) h
+  numbers : (q : ℕ) → noteNumber c (endedAt (suc (d .clock))) (view N img .number) d q ≡ view N img .number q
+  cuts : (img′ : List ℕ) → feedCut N d c (endedAt (suc (d .clock))) img′ h ≡ h
+
+module _ (N M : ℕ) (img : List ℕ) (d : Desk) (h : History) (H : Holds N M img d h) where
+  module _ (c : Call) (p : ℕ → Bool) (P : Publishes N img d h c p) (members : (u : ℕ) → p u ≡ true → (u < M) × Sealed (d .session u)) where
+    -- the end, which the clock becomes
     abbrev end : ℕ
     end = suc (d .clock)
 
     abbrev next : Desk
-    next = withSession s (published end q cs) (ticked d)
+    next = endedAll p end (ticked d)
 
-    inv : Inv N M (view N img) next (ending s end h)
-    inv = publishing N M (view N img) d h s n q cs (H .inv) l is
+    inv : Inv N M (view N img) next (ending p end h)
+    inv = publishing N M (view N img) d h p (H .inv) members
 
-    later : Later d h next (ending s end h)
-    later = record { clock = omega arith; views = λ σ r k. ended-view s end σ cs (h .sealed) ((rw is at (H .inv .fine s l)) .0 .entry) r (inl (omega arith)) (h .opening r) }
+    later : Later d h next (ending p end h)
+    later = record { clock = omega arith; views = λ σ r k. before-end N M (view N img) d h p (H .inv) members σ r k }
 
     -- the ceiling is not raised
-    quietly : end ≤ getD img 3 0 → leb end (getD img 3 0) ≡ true → Done N M img d h (publish len s) (record { answer = endedAt end; entries = [] })
+    quietly : end ≤ getD img 3 0 → leb end (getD img 3 0) ≡ true → Done N M img d h c (record { answer = endedAt end; entries = [] })
     quietly u t = record {
-      kept = rw is (record { whole = H .whole; sounds = H .sounds; inv = inv; under = u });
-      later = rw is later;
-      marks = λ p. refl;
+      kept = rw (P .desk, P .history) (record { whole = H .whole; sounds = H .sounds; inv = inv; under = u });
+      later = rw (P .desk, P .history) later;
+      marks = λ q. sym (P .numbers q);
       low = λ j lj. refl;
       top = rw t refl;
       low-cut = λ k sel j lj. rw (take-nil {A = Entry} k) refl;
       top-cut = λ k sel. rw (take-nil {A = Entry} k) (omega arith);
-      broken = λ k sel. rw (take-nil {A = Entry} k) (crashed N M img d h H);
+      broken = λ k sel. rw (take-nil {A = Entry} k, P .cuts img) (crashed N M img d h H);
     }
 
     -- it is raised
-    raising : getD img 3 0 < end → leb end (getD img 3 0) ≡ false → Done N M img d h (publish len s) (record { answer = endedAt end; entries = raiseStores end })
+    raising : getD img 3 0 < end → leb end (getD img 3 0) ≡ false → Done N M img d h c (record { answer = endedAt end; entries = raiseStores end })
     raising u f = record {
-      kept = rw is (raise-holds N M (end + 1024) img _ (made-one 3 (end + 1024) img) next (ending s end h) (H .whole) (H .sounds) inv (omega (arith, stands)));
-      later = rw is later;
-      marks = λ p. raise-numbers N M (end + 1024) img _ (made-one 3 (end + 1024) img) p;
+      kept = rw (P .desk, P .history) (raise-holds N M (end + 1024) img _ (made-one 3 (end + 1024) img) next (ending p end h) (H .whole) (H .sounds) inv (omega (arith, stands)));
+      later = rw (P .desk, P .history) later;
+      marks = λ q. raise-numbers N M (end + 1024) img _ (made-one 3 (end + 1024) img) q ∙ sym (P .numbers q);
       low = λ j lj. made-one 3 (end + 1024) img .others j (λ z. omega arith);
       top = rw f stands;
       low-cut = λ k sel j lj. cut-one 3 (end + 1024) img k sel .others j (λ z. omega arith);
       top-cut = λ k sel. raise-above N M (end + 1024) img _ (cut-one 3 (end + 1024) img k sel) (omega (arith, u));
-      broken = λ k sel. raise-crashed N M (end + 1024) img _ (cut-one 3 (end + 1024) img k sel) h (crashed N M img d h H);
+      broken = λ k sel. subst (Crashed N M (cut k sel (raiseStores end) img)) (sym (P .cuts (cut k sel (raiseStores end) img)))
+          (raise-crashed N M (end + 1024) img _ (cut-one 3 (end + 1024) img k sel) h (crashed N M img d h H));
     }
       where
         stands : getD (made (raiseStores end) img) 3 0 ≡ end + 1024
         stands = getD-set-same img 3 (end + 1024) 0 (omega (arith, H .whole))
 
-    ends : Done N M img d h (publish len s) (record { answer = endedAt end; entries = passStores end (getD img 3 0) })
-    ends = go (leb end (getD img 3 0)) refl (leb→le end (getD img 3 0)) (nleb→lt end (getD img 3 0))
+    ended : Done N M img d h c (ends (d .clock) (getD img 3 0))
+    ended = go (leb end (getD img 3 0)) refl (leb→le end (getD img 3 0)) (nleb→lt end (getD img 3 0))
       where
         go : (b : Bool) → leb end (getD img 3 0) ≡ b → (T b → end ≤ getD img 3 0) → (T (not b) → getD img 3 0 < end)
-            → Done N M img d h (publish len s) (record { answer = endedAt end; entries = cond b [] (raiseStores end) })
+            → Done N M img d h c (record { answer = endedAt end; entries = cond b [] (raiseStores end) })
         go true e y z = quietly (y tt) e
         go false e y z = raising (z tt) e
 
-  publish-at : s < M → (x : Session) → d .session s ≡ x → Done N M img d h (publish len s) (publishes (d .clock) (getD img 3 0) x)
-  publish-at l idle e = refusing N M img d h H (publish len s) 6 refl
-  publish-at l (active b q cs) e = refusing N M img d h H (publish len s) 6 refl
-  publish-at l (sealed n q cs) e = ends l n q cs e
-  publish-at l (published f q cs) e = refusing N M img d h H (publish len s) 6 refl
+  -- ---- one session
 
-  pub publish-done : Done N M img d h (publish len s) (dueOf N M (view N img .number) (getD img 3 0) d h (publish len s))
-  publish-done =
-      past-room N M img d h H (publish len s) len _ (past-session N M img d h H (publish len s) s _ (λ l. publish-at l (d .session s) refl))
+  module _ (len s : ℕ) where
+    one : s < M → (x : Session) → d .session s ≡ x → Sealed x → (u : ℕ) → eqb u s ≡ true → (u < M) × Sealed (d .session u)
+    one l x e k u y = let q : u ≡ s = eqb-true u s y in rw (q, e) (l, k)
+
+    publish-at : s < M → (x : Session) → d .session s ≡ x → Done N M img d h (publish len s) (publishes (d .clock) (getD img 3 0) x)
+    publish-at l idle e = refusing N M img d h H (publish len s) 6 refl
+    publish-at l (active b q cs) e = refusing N M img d h H (publish len s) 6 refl
+    publish-at l (sealed n q cs) e =
+        ended (publish len s) (λ u. eqb u s) (record { desk = refl; history = refl; numbers = λ _. refl; cuts = λ _. refl }) (one l (sealed n q cs) e tt)
+    publish-at l (published f q cs) e = refusing N M img d h H (publish len s) 6 refl
+
+    pub publish-done : Done N M img d h (publish len s) (dueOf N M (view N img .number) (getD img 3 0) d h (publish len s))
+    publish-done =
+        past-room N M img d h H (publish len s) len _ (past-session N M img d h H (publish len s) s _ (λ l. publish-at l (d .session s) refl))
+
+  -- ---- a set
+
+  module _ (len set : ℕ) where
+    pub group-done : Done N M img d h (group len set) (dueOf N M (view N img .number) (getD img 3 0) d h (group len set))
+    group-done =
+        past-room N M img d h H (group len set) len _ (go (anyBelow 16 (λ u. member u set)) (allBelow 16 (lowIn M set)) refl (allBelow 16 (sealedIn d set)) refl)
+      where
+        go : (some low : Bool) → allBelow 16 (lowIn M set) ≡ low → (ready : Bool) → allBelow 16 (sealedIn d set) ≡ ready
+            → Done N M img d h (group len set) (cond some (cond low (cond ready (ends (d .clock) (getD img 3 0)) (refuse 6)) (refuse 4)) (refuse 19))
+        go false low a ready b = refusing N M img d h H (group len set) 19 refl
+        go true false a ready b = refusing N M img d h H (group len set) 4 refl
+        go true true a false b = refusing N M img d h H (group len set) 6 refl
+        go true true a true b =
+            ended (group len set) (λ u. member u set) (record { desk = refl; history = refl; numbers = λ _. refl; cuts = λ _. refl }) (members-sealed M d set a b)

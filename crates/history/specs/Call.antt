@@ -1,5 +1,5 @@
 -- The session calls, with whatever a caller may pass: any session, record, words and number, and any length of the trace, which finish,
--- publish, settle and reclaim take first.
+-- publish, group, settle and reclaim take first. A group is a set of sessions that are published together (document 02, Req 06).
 use Prim.Native.Nat.{ℕ}
 use mathlib.Core.List.{List}
 
@@ -17,6 +17,7 @@ pub data Call : Type 0 where
   abandon : ℕ → Call
   finish : ℕ → ℕ → Call
   publish : ℕ → ℕ → Call
+  group : ℕ → ℕ → Call
   settle : ℕ → ℕ → Call
   reclaim : ℕ → ℕ → Call
   listen : Listening → Call

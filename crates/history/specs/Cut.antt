@@ -5,7 +5,7 @@ use mathlib.Core.List.{List}
 use lib.Dec.{eqb}
 use Rattle.layout.specs.Image.{word, placeOf, slotAt}
 use Rattle.layout.specs.Told.{Told, is, valueOf, Sealed}
-use Rattle.history.specs.Call.{Call, begin, read, write, abandon, finish, publish, settle, reclaim, listen}
+use Rattle.history.specs.Call.{Call, begin, read, write, abandon, finish, publish, group, settle, reclaim, listen}
 use Rattle.history.specs.Desk.{Desk}
 use Rattle.history.specs.History.{History, sealing}
 use Rattle.history.specs.Ledger.{slotOf}
@@ -22,6 +22,7 @@ feedCut N d (write s r ws) t img h = h
 feedCut N d (abandon s) t img h = h
 feedCut N d (finish len s) t img h = cond (is Sealed t) (cond (numberArrived N d s (valueOf t) img) (sealing s h) h) h
 feedCut N d (publish len s) t img h = h
+feedCut N d (group len set) t img h = h
 feedCut N d (settle len s) t img h = h
 feedCut N d (reclaim len s) t img h = h
 feedCut N d (listen c) t img h = h

@@ -1,17 +1,19 @@
--- What is due by document 01's rules: from the ledger alone, what a call tells and the entries that it stores, in a store of N records and
+-- What is due by the rules of documents 01 and 02: from the ledger alone, what a call tells and the entries that it stores, in a store of N records and
 -- M sessions.
 use Prim.Native.Nat.{ℕ, zero, suc, _+_, _*_}
-use mathlib.Core.Bool.{Bool, true, false, cond, _&&_}
+use mathlib.Core.Bool.{Bool, true, false, cond, not, _&&_, _||_}
 use mathlib.Core.Option.{Option, none, some}
 use mathlib.Core.List.{List, [], _∷_, _++_}
 use lib.ListN.{length, getD}
 use lib.Dec.{eqb, leb, ltb}
+use Rattle.layout.specs.Below.{allBelow, anyBelow}
 use Rattle.layout.specs.Entries.{Entry, store, fence, stores, shift}
 use Rattle.layout.specs.Image.{placeOf, slotAt}
 use Rattle.layout.specs.Told.{Told, refused, refusal, ok, start, own, copied, home, empty, sealedAt, endedAt, wait, nothing, held, cleared, foundAt}
 use Rattle.desk.specs.Coherent.{limit}
+use Rattle.desk.specs.Group.{member}
 use Rattle.journal.specs.Log.{logEntries}
-use Rattle.history.specs.Call.{Listening, Begin, Read, Finish, Find, Call, begin, read, write, abandon, finish, publish, settle, reclaim, listen}
+use Rattle.history.specs.Call.{Listening, Begin, Read, Finish, Find, Call, begin, read, write, abandon, finish, publish, group, settle, reclaim, listen}
 use Rattle.history.specs.Desk.{Copy, find, recAt, wordsAt, writes, Session, idle, active, sealed, published, Desk, firstOf, holder, awaited}
 use Rattle.history.specs.History.{History, viewAt}
 use Rattle.history.specs.Ledger.{Ledger, candidate}
@@ -120,11 +122,33 @@ abbrev pub passStores : ℕ → ℕ → List Entry
 passStores c w = cond (leb c w) [] (raiseStores c)
 
 -- end is clock + 1
+abbrev pub ends : ℕ → ℕ → Due
+ends clock w = record { answer = endedAt (suc clock); entries = passStores (suc clock) w }
+
 abbrev pub publishes : ℕ → ℕ → Session → Due
 publishes clock w idle = refuse 6
 publishes clock w (active b q cs) = refuse 6
-publishes clock w (sealed n q cs) = record { answer = endedAt (suc clock); entries = passStores (suc clock) w }
+publishes clock w (sealed n q cs) = ends clock w
 publishes clock w (published e q cs) = refuse 6
+
+abbrev pub isSealed : Session → Bool
+isSealed idle = false
+isSealed (active b q cs) = false
+isSealed (sealed n q cs) = true
+isSealed (published e q cs) = false
+
+-- a session that is a member of the set is below M, and is sealed
+abbrev pub lowIn : ℕ → ℕ → ℕ → Bool
+lowIn M set u = not (member u set) || ltb u M
+
+abbrev pub sealedIn : Desk → ℕ → ℕ → Bool
+sealedIn d set u = not (member u set) || isSealed (d .session u)
+
+-- published together: 19 the empty set, 4 a member at or above M, 6 a member that is not sealed (document 02, Req 06)
+abbrev pub groups : ℕ → ℕ → Desk → ℕ → Due
+groups M w d set =
+    cond (anyBelow 16 (λ u. member u set))
+    (cond (allBelow 16 (lowIn M set)) (cond (allBelow 16 (sealedIn d set)) (ends (d .clock) w) (refuse 6)) (refuse 4)) (refuse 19)
 
 -- wait with the active session that has the smallest start below the end, among equal starts the lowest; otherwise the copies go home and a
 -- fence follows
@@ -228,6 +252,7 @@ dueOf N M f w d h (write s r ws) = ifSession M s (ifRecord N r (wrote M f d s r 
 dueOf N M f w d h (abandon s) = ifSession M s (abandons (d .session s))
 dueOf N M f w d h (finish len s) = ifRoom len (ifSession M s (finishes N (d .clock) s (d .session s)))
 dueOf N M f w d h (publish len s) = ifRoom len (ifSession M s (publishes (d .clock) w (d .session s)))
+dueOf N M f w d h (group len set) = ifRoom len (groups M w d set)
 dueOf N M f w d h (settle len s) = ifRoom len (ifSession M s (settles M d (d .session s)))
 dueOf N M f w d h (reclaim len s) = ifRoom len (ifSession M s (reclaims N M f s (candidate f s (d .session s))))
 dueOf N M f w d h (listen c) = dueListening N M d h c

@@ -1,11 +1,12 @@
 -- The history (document 01: the book), fed each call with what it tells. It never looks at an image or a desk.
 use Prim.Native.Nat.{ℕ}
-use mathlib.Core.Bool.{Bool, true, false, cond, _||_}
+use mathlib.Core.Bool.{Bool, true, false, cond, not, _&&_, _||_}
 use mathlib.Core.Option.{Option, none, some}
 use mathlib.Core.List.{List, [], _∷_, _++_}
 use lib.Dec.{eqb, leb}
 use Rattle.layout.specs.Told.{Told, is, refusedBy, valueOf, Ok, Start, Sealed, End}
-use Rattle.history.specs.Call.{Listening, Begin, Read, Finish, Find, Call, begin, read, write, abandon, finish, publish, settle, reclaim, listen}
+use Rattle.desk.specs.Group.{member}
+use Rattle.history.specs.Call.{Listening, Begin, Read, Finish, Find, Call, begin, read, write, abandon, finish, publish, group, settle, reclaim, listen}
 use Rattle.history.specs.Desk.{Copy, find, put, upd}
 
 -- an entry of the list: its session, what it wrote, and its end once it is published
@@ -47,13 +48,13 @@ entered s (x ∷ xs) = eqb (x .session) s || entered s xs
 abbrev pub withEnd : ℕ → Seal → Seal
 withEnd e x = record { session = x .session; draft = x .draft; end = some e }
 
--- publish with an end gives it to the session's last entry
-abbrev pub ended : ℕ → ℕ → List Seal → List Seal
-ended s e [] = []
-ended s e (x ∷ xs) = cond (entered s xs) (x ∷ ended s e xs) (cond (eqb (x .session) s) (withEnd e x ∷ xs) (x ∷ xs))
+-- an end is given to the last entry of each session that passes the test
+abbrev pub ended : (ℕ → Bool) → ℕ → List Seal → List Seal
+ended p e [] = []
+ended p e (x ∷ xs) = cond (p (x .session) && not (entered (x .session) xs)) (withEnd e x) x ∷ ended p e xs
 
-abbrev pub ending : ℕ → ℕ → History → History
-ending s e h = record { opening = h .opening; sealed = ended s e (h .sealed); draft = h .draft; start = h .start }
+abbrev pub ending : (ℕ → Bool) → ℕ → History → History
+ending p e h = record { opening = h .opening; sealed = ended p e (h .sealed); draft = h .draft; start = h .start }
 
 -- begin with a start notes it and empties the session's draft
 abbrev pub feedBegin : ℕ → Told → History → History
@@ -66,14 +67,16 @@ feedListening (Read s r) t h = h
 feedListening (Finish len s) t h = h
 feedListening (Find s k) t h = h
 
--- write ok sets the record's words in the draft; abandon ok and refusal 7 empty the draft; any other answer changes nothing
+-- write ok sets the record's words in the draft; abandon ok and refusal 7 empty the draft; publish gives its end to the session's last
+-- entry, a group to that of each member; any other answer changes nothing
 abbrev pub feed : Call → Told → History → History
 feed (begin s) t h = feedBegin s t h
 feed (read s r) t h = h
 feed (write s r ws) t h = cond (is Ok t) (drafted s (put r ws (h .draft s)) h) (cond (refusedBy 7 t) (drafted s [] h) h)
 feed (abandon s) t h = cond (is Ok t) (drafted s [] h) h
 feed (finish len s) t h = cond (is Sealed t) (sealing s h) h
-feed (publish len s) t h = cond (is End t) (ending s (valueOf t) h) h
+feed (publish len s) t h = cond (is End t) (ending (λ u. eqb u s) (valueOf t) h) h
+feed (group len set) t h = cond (is End t) (ending (λ u. member u set) (valueOf t) h) h
 feed (settle len s) t h = h
 feed (reclaim len s) t h = h
 feed (listen c) t h = feedListening c t h

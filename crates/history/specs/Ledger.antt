@@ -6,7 +6,8 @@ use mathlib.Core.List.{List, [], _∷_}
 use lib.Dec.{eqb, leb}
 use Rattle.layout.specs.Image.{placeOf}
 use Rattle.layout.specs.Told.{Told, is, refusedBy, valueOf, Ok, Start, Empty, Sealed, End, Cleared}
-use Rattle.history.specs.Call.{Listening, Begin, Read, Finish, Find, Call, begin, read, write, abandon, finish, publish, settle, reclaim, listen}
+use Rattle.desk.specs.Group.{member}
+use Rattle.history.specs.Call.{Listening, Begin, Read, Finish, Find, Call, begin, read, write, abandon, finish, publish, group, settle, reclaim, listen}
 use Rattle.history.specs.Desk.{Copy, put, Session, idle, active, sealed, published, Desk, upd, withSession}
 use Rattle.history.specs.History.{History, feed}
 
@@ -47,6 +48,10 @@ endedWith e (published f q cs) = published f q cs
 abbrev pub ticked : Desk → Desk
 ticked d = record { clock = suc (d .clock); session = d .session }
 
+-- an end for each session that passes the test
+abbrev pub endedAll : (ℕ → Bool) → ℕ → Desk → Desk
+endedAll p e d = record { clock = d .clock; session = λ u. cond (p u) (endedWith e (d .session u)) (d .session u) }
+
 -- begin with a start: the session is active with it
 abbrev pub noteBegin : ℕ → Told → Desk → Desk
 noteBegin s t d = cond (is Start t) (withSession s (active (valueOf t) 0 []) d) d
@@ -67,7 +72,8 @@ noteDesk (write s r ws) t f d =
 noteDesk (abandon s) t f d = cond (is Ok t) (withSession s idle d) d
 noteDesk (finish len s) t f d =
     cond (is Sealed t) (withSession s (sealedWith (valueOf t) (d .session s)) d) (cond (is Empty t) (withSession s idle d) d)
-noteDesk (publish len s) t f d = cond (is End t) (withSession s (endedWith (valueOf t) (d .session s)) (ticked d)) d
+noteDesk (publish len s) t f d = cond (is End t) (endedAll (λ u. eqb u s) (valueOf t) (ticked d)) d
+noteDesk (group len set) t f d = cond (is End t) (endedAll (λ u. member u set) (valueOf t) (ticked d)) d
 noteDesk (settle len s) t f d = cond (is Ok t) (withSession s idle d) d
 noteDesk (reclaim len s) t f d = d
 noteDesk (listen c) t f d = noteListening c t d
@@ -113,6 +119,7 @@ noteNumber (write s r ws) t f d = f
 noteNumber (abandon s) t f d = f
 noteNumber (finish len s) t f d = cond (is Sealed t) (upd (placeOf s (slotOf (d .session s))) (valueOf t) f) f
 noteNumber (publish len s) t f d = f
+noteNumber (group len set) t f d = f
 noteNumber (settle len s) t f d = f
 noteNumber (reclaim len s) t f d = cond (is Cleared t) (emptied s (candidate f s (d .session s)) f) f
 noteNumber (listen c) t f d = f

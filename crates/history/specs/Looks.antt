@@ -3,7 +3,7 @@ use Prim.Native.Nat.{ℕ, suc}
 use mathlib.Core.Bool.{cond}
 use mathlib.Core.Option.{Option, none, some}
 use Rattle.layout.specs.Told.{Told, nothing, isRefusal}
-use Rattle.history.specs.Call.{Listening, Begin, Read, Finish, Find, Call, begin, read, write, abandon, finish, publish, settle, reclaim, listen}
+use Rattle.history.specs.Call.{Listening, Begin, Read, Finish, Find, Call, begin, read, write, abandon, finish, publish, group, settle, reclaim, listen}
 use Rattle.history.specs.Desk.{Session, idle, active, sealed, published, Desk, holder}
 use Rattle.history.specs.Due.{shownBy, readsOther, firstShelved, due}
 use Rattle.history.specs.History.{History, viewAt}
@@ -46,6 +46,7 @@ looksIn N M d h (write s r ws) = noLooks
 looksIn N M d h (abandon s) = noLooks
 looksIn N M d h (finish len s) = noLooks
 looksIn N M d h (publish len s) = noLooks
+looksIn N M d h (group len set) = noLooks
 looksIn N M d h (settle len s) = noLooks
 looksIn N M d h (reclaim len s) = noLooks
 looksIn N M d h (listen c) = looksListening N M d h c

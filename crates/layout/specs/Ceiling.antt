@@ -1,5 +1,5 @@
--- The ceiling (document 02, Req 05): opening raises it to 1,024 above the clock that it gives, and publish does so where its new clock would
--- pass it. A raise is two entries, the store and its fence.
+-- The ceiling (document 02, Req 05): opening raises it to 1,024 above the clock that it gives, and publish, of one session or of a set, does
+-- so where its new clock would pass it. A raise is two entries, the store and its fence.
 use Prim.Native.Nat.{ℕ, _+_}
 use mathlib.Core.Bool.{cond}
 use mathlib.Core.List.{List, [], _∷_}

@@ -90,7 +90,7 @@ pub fn within(size: u64, most: usize) -> usize
 
 // Whether the call is known and the lengths of the trace and the image are within their bounds.
 fn sound(words: [u64; 2454]) -> bool {
-    (words[0] <= 19) & (words[9] <= 64) & (words[10] <= 1800)
+    (words[0] <= 20) & (words[9] <= 64) & (words[10] <= 1800)
 }
 
 // Unpacks the case at a place of the input held; its size is 0 where there is no whole case, or one that is out of bounds.

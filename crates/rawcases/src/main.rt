@@ -1,6 +1,7 @@
 // Reads packed raw cases from standard input, makes the call of each and writes a line of what it answered and left. `model/raw.py` has the
 // formats.
 mod case;
+mod group;
 mod input;
 
 use case::fields;

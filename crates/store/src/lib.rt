@@ -1,4 +1,5 @@
-// The record store: every call that users make, handed on from the crate that has it. Begin, publish and abandon are methods of `Desk`.
+// The record store: every call that users make, handed on from the crate that has it. Begin, publish, `publish_group` and abandon are
+// methods of `Desk`.
 pub use commit::FinishAnswer;
 pub use commit::FinishReply;
 pub use commit::ReclaimAnswer;
