@@ -1,4 +1,4 @@
--- Sets, what a group does on any image and desk, that single publish is the case of one member, and cases in numbers.
+-- Sets, what a group does on any image and desk, and that single publish is the case of one member.
 use Prim.Native.Nat.{ℕ, zero, suc, _+_, _*_, _^_, _/_, _%_, _≤_, _<_}
 use mathlib.Core.Bool.{Bool, true, false, cond, _&&_, false≢true}
 use mathlib.Core.Path.{_≡_, refl, sym, ap, _∙_}
@@ -9,19 +9,17 @@ use lib.ListN.{set as put}
 use lib.Pow.{mod-pow-add}
 use lib.Seq.{getD-set-same, getD-set-other}
 use borrow.Author.Tests.{lt-ltb, leb-true}
-use Rattle.layout.specs.Below.{allBelow, anyBelow, countBelow, lowest}
 use Rattle.layout.specs.Ceiling.{raiseEntries, passEntries}
-use Rattle.layout.specs.Checks.{first, answered, roomFor}
+use Rattle.layout.specs.Checks.{answered, roomFor}
 use Rattle.layout.specs.Entries.{made}
-use Rattle.layout.specs.Image.{recordsOf, sessionsOf, ceilingOf, shapedB}
+use Rattle.layout.specs.Image.{recordsOf, sessionsOf, ceilingOf}
 use Rattle.layout.specs.Told.{isRefusal}
 use Rattle.layout.proofs.ChecksLaws.{first-both}
 use Rattle.layout.proofs.Says.{says-and, says-eq, says-le}
-use Rattle.desk.specs.Begin.{beginFault, beginReply}
-use Rattle.desk.specs.Coherent.{freshB, placesOk, sessionOk, copiesB, coherentB}
+use Rattle.desk.specs.Coherent.{coherentB}
 use Rattle.desk.specs.Desk.{copiedRec, sessionAt, markAt}
-use Rattle.desk.specs.Entering.{agreesB, sessionFault, entryFault}
-use Rattle.desk.specs.Group.{member, storeFault, setFault, groupFault, groupEntries, publishedBelow, grouped, groupReply}
+use Rattle.desk.specs.Entering.{agreesB}
+use Rattle.desk.specs.Group.{member, storeFault, setFault, groupFault, groupEntries, grouped, groupReply}
 use Rattle.desk.specs.Publish.{endEntries, publishRefused}
 use Rattle.desk.specs.Told.{publishTold}
 use Rattle.desk.specs.declared.state.Desk.{Desk}
@@ -30,10 +28,9 @@ use Rattle.desk.proofs.Entered.{Entered, entered}
 use Rattle.desk.proofs.Facts.{says-coherent}
 use Rattle.desk.proofs.GroupDesk.{member-small, Loaded, loaded, grouped-at, one-reply, one-entries}
 use Rattle.desk.proofs.GroupLaws.{store-checks}
-use Rattle.snapshot.specs.Read.{readFault, sightOf, readReply}
 use Rattle.history.specs.Looks.{noLooks}
 use Rattle.claims.specs.Rules.{storeRules}
-use Rattle.claims.specs.Together.{worthBelow, SetsRead, GroupRight, GroupStores, OneMember, VanLoads}
+use Rattle.claims.specs.Together.{worthBelow, SetsRead, GroupRight, GroupStores, OneMember}
 use Rattle.claims.proofs.SteadyGroup.{grouped-coherent}
 
 -- ---- sets
@@ -137,44 +134,3 @@ group-stores img d len set e = go (groupFault img d len set) refl e
 
 pub one-member : OneMember storeRules
 one-member img d len s l = rw (one-reply s l img d len, one-entries s l img d len) refl
-
--- ---- in numbers
-
-pub van-loads : VanLoads
-unfolding allBelow anyBelow countBelow lowest first answered shapedB freshB placesOk sessionOk copiesB coherentB member storeFault setFault groupFault groupEntries publishedBelow groupReply sessionFault entryFault beginFault beginReply readFault sightOf readReply
-van-loads =
-    record {
-      two-told = refl;
-      two-clock = refl;
-      two-first = refl;
-      two-beside = refl;
-      two-last = refl;
-      three = refl;
-      three-told = refl;
-      one-told = refl;
-      end-below = refl;
-      end-at = refl;
-      end-above = refl;
-      end-counted = refl;
-      end-last = refl;
-      clock-past = refl;
-      end-past = refl;
-      empty = refl;
-      empty-short = refl;
-      empty-clock = refl;
-      empty-wrong = refl;
-      at-m = refl;
-      at-fifteen = refl;
-      at-m-idle = refl;
-      at-m-left = refl;
-      idle = refl;
-      active = refl;
-      published = refl;
-      idle-left = refl;
-      not-member = refl;
-      begins-behind = refl;
-      first-behind = refl;
-      last-behind = refl;
-      first-before = refl;
-      last-before = refl;
-    }
