@@ -940,28 +940,28 @@ shows-later h =
     go : (y : Reply) → y .told ≡ copied (9 ∷ 6 ∷ 7 ∷ 8 ∷ []) → showingLater (after calls .image) d (read 2 1) y .told ≡ home (homeWords (after calls .image) 1)
     go y e = rw (e, mark-after calls 1 1 (omega arith) refl, ended-at 1, ended-at 0, began-at 2) refl
 
--- session 1 is sealed: where a set is refused the clock stays
-some-clock : (k : ℕ) (f : Told → Told) (set : ℕ) → refusedBy k (due 2 4 (expected (sealing 1 1 9) .ledger) (group 48 set) .answer) ≡ true
-    → reply (publishesSome k f) (after (sealing 1 1 9)) (group 48 set) .desk .clock ≡ after (sealing 1 1 9) .desk .clock + 1
-unfolding reply
-some-clock k f set r = rw (ap (refusedBy k) (told-next (sealing 1 1 9) (group 48 set)) ∙ r) refl
+-- session 1 is sealed, and the set is refused: the clock stays, and is the next start
+publishes-some : (k set : ℕ) (f : Told → Told) → refusedBy k (due 2 4 (expected (sealing 1 1 9) .ledger) (group 48 set) .answer) ≡ true
+    → due 2 4 (note (group 48 set) (due 2 4 (expected (sealing 1 1 9) .ledger) (group 48 set) .answer) (expected (sealing 1 1 9) .ledger)) (begin 2) .answer ≡ start 1
+    → Demand2 (publishesSome k f) → ⊥
+unfolding expected
+publishes-some k set f r s h =
+    clock-due (publishesSome k f) (sealing 1 1 9) (search depth 9) h (group 48 set) (λ w. refl) 1 s
+    (rw (ap (refusedBy k) (told-next (sealing 1 1 9) (group 48 set)) ∙ r, clock-after (sealing 1 1 9)) refl)
 
 -- session 0 is idle
 publishes-sealed : (f : Told → Told) → Demand2 (publishesSome 6 f) → ⊥
 unfolding expected
-publishes-sealed f h =
-    clock-due (publishesSome 6 f) (sealing 1 1 9) (search depth 9) h (group 48 3) (λ w. refl) 1 refl (rw (some-clock 6 f 3 refl, clock-after (sealing 1 1 9)) refl)
+publishes-sealed f = publishes-some 6 3 f refl refl
 
 -- session 4 is none of four
 publishes-low : (f : Told → Told) → Demand2 (publishesSome 4 f) → ⊥
 unfolding expected
-publishes-low f h =
-    clock-due (publishesSome 4 f) (sealing 1 1 9) (search depth 9) h (group 48 18) (λ w. refl) 1 refl (rw (some-clock 4 f 18 refl, clock-after (sealing 1 1 9)) refl)
+publishes-low f = publishes-some 4 18 f refl refl
 
 publishes-none : (f : Told → Told) → Demand2 (publishesSome 19 f) → ⊥
 unfolding expected
-publishes-none f h =
-    clock-due (publishesSome 19 f) (sealing 1 1 9) (search depth 9) h (group 48 0) (λ w. refl) 1 refl (rw (some-clock 19 f 0 refl, clock-after (sealing 1 1 9)) refl)
+publishes-none f = publishes-some 19 0 f refl refl
 
 pub impostors : Impostors
 impostors =

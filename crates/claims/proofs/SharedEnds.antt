@@ -1,29 +1,28 @@
 -- Transactions that share an end have no record in common: an end is above all that were given before, and the sessions that are given it
 -- together hold different records.
-use Prim.Native.Nat.{ℕ, suc, _≤_, _<_}
+use Prim.Native.Nat.{ℕ, suc, _≤_}
 use mathlib.Core.Bool.{Bool, true, false, cond, not, _&&_, _||_, or-true, false≢true}
 use mathlib.Core.Option.{Option, none, some}
 use mathlib.Core.Path.{_≡_, refl, sym, ap, _∙_, subst}
 use mathlib.Core.List.{List, [], _∷_, _++_}
 use native.Mathlib.Omega.{arith}
-use lib.Dec.{T, eqb, leb, nleb→lt}
-use borrow.Author.Tests.{eqb-true, eq-eqb}
-use Rattle.layout.specs.Below.{allBelow, anyBelow}
+use lib.Dec.{eqb}
+use borrow.Author.Tests.{eq-eqb}
 use Rattle.layout.specs.Image.{recordsOf, sessionsOf}
 use Rattle.layout.specs.Told.{Told, is, refusedBy, Ok, Start, Sealed}
 use Rattle.layout.proofs.Says.{by-test}
 use Rattle.desk.specs.Group.{member}
 use Rattle.history.specs.Call.{Begin, Read, Finish, Find, Call, begin, read, write, abandon, finish, publish, group, settle, reclaim, listen}
-use Rattle.history.specs.Desk.{Copy, find, found, put, Session, idle, active, sealed, published, copies, Desk}
-use Rattle.history.specs.Due.{refuse, ends, publishes, lowIn, sealedIn, due}
+use Rattle.history.specs.Desk.{Copy, find, found, put, copies, Desk}
+use Rattle.history.specs.Due.{due}
 use Rattle.history.specs.History.{Seal, entryOf, withEnd, entered, ended, sealing, drafted, History, feed}
 use Rattle.history.specs.Layout.{view}
 use Rattle.history.specs.Ledger.{Ledger, note, noteDesk}
 use Rattle.history.proofs.Book.{Own, own-rest, own-here}
 use Rattle.history.proofs.Calls.{Held}
 use Rattle.history.proofs.Copies.{Apart}
-use Rattle.history.proofs.KeptPublish.{members-sealed}
-use Rattle.history.proofs.MovePublish.{Sealed as IsSealed, sealed-own}
+use Rattle.history.proofs.MovePublish.{sealed-own}
+use Rattle.history.proofs.PublishDue.{Members, publish-due, group-due}
 use Rattle.claims.specs.Rules.{storeRules}
 use Rattle.claims.specs.Run.{World, opened, step, run}
 use Rattle.claims.specs.Together.{Parted, PartedFrom, AllParted, SharedEnds}
@@ -165,7 +164,7 @@ module _ (N M : ℕ) (img : List ℕ) (L : Ledger) (H : Held N M img L) (o : End
   seals = L .history .sealed
 
   -- an end for the sessions that pass the test, all sealed
-  gives : (p : ℕ → Bool) → ((u : ℕ) → p u ≡ true → (u < M) × IsSealed (d .session u)) → EndsParted (suc (d .clock)) (ended p (suc (d .clock)) seals)
+  gives : (p : ℕ → Bool) → Members M d p → EndsParted (suc (d .clock)) (ended p (suc (d .clock)) seals)
   gives p members =
       record {
         parted =
@@ -201,31 +200,17 @@ module _ (N M : ℕ) (img : List ℕ) (L : Ledger) (H : Held N M img L) (o : End
 
   publish-after : (len s : ℕ) → After (publish len s)
   unfolding due
-  publish-after len s = go (leb 48 len) (leb M s) (nleb→lt M s) (d .session s) refl
-    where
-      go : (a b : Bool) → (T (not b) → s < M) → (x : Session) → d .session s ≡ x
-          → let y = cond a (cond b (refuse 4) (publishes (d .clock) (L .ceiling) x)) (refuse 3) .answer in
-          EndsParted (noteDesk (publish len s) y (L .number) d .clock) (feed (publish len s) y (L .history) .sealed)
-      go false b l x q = stays (d .clock) (omega arith)
-      go true true l x q = stays (d .clock) (omega arith)
-      go true false l idle q = stays (d .clock) (omega arith)
-      go true false l (active b p cs) q = stays (d .clock) (omega arith)
-      go true false l (sealed n p cs) q = gives (λ u. eqb u s) (λ u y. let z : u ≡ s = eqb-true u s y in rw (z, q) (l tt, tt))
-      go true false l (published m p cs) q = stays (d .clock) (omega arith)
+  publish-after len s =
+      publish-due N M (L .number) (L .ceiling) d (L .history)
+      (λ y. EndsParted (noteDesk (publish len s) (y .answer) (L .number) d .clock) (feed (publish len s) (y .answer) (L .history) .sealed))
+      (λ k _. stays (d .clock) (omega arith)) len s (gives (λ u. eqb u s))
 
   group-after : (len set : ℕ) → After (group len set)
   unfolding due
-  group-after len set = go (leb 48 len) (anyBelow 16 (λ u. member u set)) (allBelow 16 (lowIn M set)) refl (allBelow 16 (sealedIn d set)) refl
-    where
-      go : (a b low : Bool) → allBelow 16 (lowIn M set) ≡ low → (ready : Bool) → allBelow 16 (sealedIn d set) ≡ ready
-          → let y = cond a (cond b (cond low (cond ready (ends (d .clock) (L .ceiling)) (refuse 6)) (refuse 4)) (refuse 19)) (refuse 3) .answer in
-          EndsParted (noteDesk (group len set) y (L .number) d .clock) (feed (group len set) y (L .history) .sealed)
-      go false b low i ready j = stays (d .clock) (omega arith)
-      go true false low i ready j = stays (d .clock) (omega arith)
-      go true true false i ready j = stays (d .clock) (omega arith)
-      go true true true i false j = stays (d .clock) (omega arith)
-      go true true true i true j =
-          gives (λ u. member u set) (members-sealed M d set i j)
+  group-after len set =
+      group-due N M (L .number) (L .ceiling) d (L .history)
+      (λ y. EndsParted (noteDesk (group len set) (y .answer) (L .number) d .clock) (feed (group len set) (y .answer) (L .history) .sealed))
+      (λ k _. stays (d .clock) (omega arith)) len set (gives (λ u. member u set))
 
   call-after : (c : Call) → d .clock ≤ noteDesk c (told c) (L .number) d .clock → After c
   call-after (begin s) l = quiet (is Start (told (begin s))) _ _ l refl

@@ -1,47 +1,29 @@
 -- Publish keeps the invariant, of one session or of a set.
 use Prim.Native.Nat.{ℕ, suc, _+_, _≤_, _<_}
 use mathlib.Core.Path.{_≡_, refl, _∙_, subst, sym}
-use mathlib.Core.Bool.{Bool, true, false, cond, not, false≢true}
+use mathlib.Core.Bool.{Bool, true, false, cond, not}
 use mathlib.Core.List.{List, []}
 use native.Mathlib.Omega.{arith}
 use lib.Dec.{T, eqb, leb, leb→le, nleb→lt}
 use lib.ListN.{getD}
 use lib.Seq.{take-nil, getD-set-same}
-use borrow.Author.Tests.{eqb-true}
-use Rattle.layout.specs.Below.{allBelow, anyBelow}
 use Rattle.layout.specs.Crash.{crashed as cut}
 use Rattle.layout.specs.Entries.{Entry, made}
 use Rattle.layout.specs.Told.{endedAt}
-use Rattle.layout.proofs.Says.{says-all, says-then, says-itself, says-lt}
 use Rattle.desk.specs.Group.{member}
-use Rattle.desk.proofs.GroupDesk.{member-small}
 use Rattle.history.specs.Layout.{view}
 use Rattle.history.specs.Call.{Call, publish, group}
 use Rattle.history.specs.Cut.{feedCut}
-use Rattle.history.specs.Desk.{Session, idle, active, sealed, published, Desk}
-use Rattle.history.specs.Due.{refuse, raiseStores, ends, publishes, isSealed, lowIn, sealedIn, dueOf}
+use Rattle.history.specs.Desk.{Desk}
+use Rattle.history.specs.Due.{raiseStores, ends, dueOf}
 use Rattle.history.specs.History.{History, feed, ending}
 use Rattle.history.specs.Ledger.{ticked, endedAll, noteDesk, noteNumber}
 use Rattle.history.proofs.Invariant.{Inv}
-use Rattle.history.proofs.MovePublish.{Sealed, publishing, before-end}
+use Rattle.history.proofs.MovePublish.{publishing, before-end}
+use Rattle.history.proofs.PublishDue.{Members, publish-due, group-due}
 use Rattle.history.proofs.MoveRaise.{raise-numbers, raise-above, raise-holds, raise-crashed}
 use Rattle.history.proofs.Slots.{made-one, cut-one}
-use Rattle.history.proofs.Kept.{Holds, Later, Crashed, crashed, Done, refusing, past-room, past-session}
-
-is-sealed : (x : Session) → isSealed x ≡ true → Sealed x
-is-sealed idle e = absurd (false≢true e)
-is-sealed (active b q cs) e = absurd (false≢true e)
-is-sealed (sealed n q cs) e = tt
-is-sealed (published f q cs) e = absurd (false≢true e)
-
--- past 4 and 6, each member is below M and sealed
-pub members-sealed : (M : ℕ) (d : Desk) (set : ℕ) → allBelow 16 (lowIn M set) ≡ true → allBelow 16 (sealedIn d set) ≡ true
-    → (u : ℕ) → member u set ≡ true → (u < M) × Sealed (d .session u)
-members-sealed M d set low ready u y =
-    let small = member-small u set y in (
-      says-all 16 (λ v. says-then (says-itself (member v set)) (says-lt v M)) .yes low u small y,
-      is-sealed (d .session u) (says-all 16 (λ v. says-then (says-itself (member v set)) (says-itself (isSealed (d .session v)))) .yes ready u small y),
-    )
+use Rattle.history.proofs.Kept.{Holds, Later, Crashed, crashed, Done, refusing}
 
 -- a call that, told the end, publishes the sessions that pass the test
 record Publishes (N : ℕ) (img : List ℕ) (d : Desk) (h : History) (c : Call) (p : ℕ → Bool) : Type 0 where
@@ -51,7 +33,7 @@ record Publishes (N : ℕ) (img : List ℕ) (d : Desk) (h : History) (c : Call) 
   cuts : (img′ : List ℕ) → feedCut N d c (endedAt (suc (d .clock))) img′ h ≡ h
 
 module _ (N M : ℕ) (img : List ℕ) (d : Desk) (h : History) (H : Holds N M img d h) where
-  module _ (c : Call) (p : ℕ → Bool) (P : Publishes N img d h c p) (members : (u : ℕ) → p u ≡ true → (u < M) × Sealed (d .session u)) where
+  module _ (c : Call) (p : ℕ → Bool) (P : Publishes N img d h c p) (members : Members M d p) where
     -- the end, which the clock becomes
     abbrev end : ℕ
     end = suc (d .clock)
@@ -103,34 +85,12 @@ module _ (N M : ℕ) (img : List ℕ) (d : Desk) (h : History) (H : Holds N M im
         go true e y z = quietly (y tt) e
         go false e y z = raising (z tt) e
 
-  -- ---- one session
+  pub publish-done : (len s : ℕ) → Done N M img d h (publish len s) (dueOf N M (view N img .number) (getD img 3 0) d h (publish len s))
+  publish-done len s =
+      publish-due N M (view N img .number) (getD img 3 0) d h (Done N M img d h (publish len s)) (refusing N M img d h H (publish len s)) len s
+      (ended (publish len s) (λ u. eqb u s) (record { desk = refl; history = refl; numbers = λ _. refl; cuts = λ _. refl }))
 
-  module _ (len s : ℕ) where
-    one : s < M → (x : Session) → d .session s ≡ x → Sealed x → (u : ℕ) → eqb u s ≡ true → (u < M) × Sealed (d .session u)
-    one l x e k u y = let q : u ≡ s = eqb-true u s y in rw (q, e) (l, k)
-
-    publish-at : s < M → (x : Session) → d .session s ≡ x → Done N M img d h (publish len s) (publishes (d .clock) (getD img 3 0) x)
-    publish-at l idle e = refusing N M img d h H (publish len s) 6 refl
-    publish-at l (active b q cs) e = refusing N M img d h H (publish len s) 6 refl
-    publish-at l (sealed n q cs) e =
-        ended (publish len s) (λ u. eqb u s) (record { desk = refl; history = refl; numbers = λ _. refl; cuts = λ _. refl }) (one l (sealed n q cs) e tt)
-    publish-at l (published f q cs) e = refusing N M img d h H (publish len s) 6 refl
-
-    pub publish-done : Done N M img d h (publish len s) (dueOf N M (view N img .number) (getD img 3 0) d h (publish len s))
-    publish-done =
-        past-room N M img d h H (publish len s) len _ (past-session N M img d h H (publish len s) s _ (λ l. publish-at l (d .session s) refl))
-
-  -- ---- a set
-
-  module _ (len set : ℕ) where
-    pub group-done : Done N M img d h (group len set) (dueOf N M (view N img .number) (getD img 3 0) d h (group len set))
-    group-done =
-        past-room N M img d h H (group len set) len _ (go (anyBelow 16 (λ u. member u set)) (allBelow 16 (lowIn M set)) refl (allBelow 16 (sealedIn d set)) refl)
-      where
-        go : (some low : Bool) → allBelow 16 (lowIn M set) ≡ low → (ready : Bool) → allBelow 16 (sealedIn d set) ≡ ready
-            → Done N M img d h (group len set) (cond some (cond low (cond ready (ends (d .clock) (getD img 3 0)) (refuse 6)) (refuse 4)) (refuse 19))
-        go false low a ready b = refusing N M img d h H (group len set) 19 refl
-        go true false a ready b = refusing N M img d h H (group len set) 4 refl
-        go true true a false b = refusing N M img d h H (group len set) 6 refl
-        go true true a true b =
-            ended (group len set) (λ u. member u set) (record { desk = refl; history = refl; numbers = λ _. refl; cuts = λ _. refl }) (members-sealed M d set a b)
+  pub group-done : (len set : ℕ) → Done N M img d h (group len set) (dueOf N M (view N img .number) (getD img 3 0) d h (group len set))
+  group-done len set =
+      group-due N M (view N img .number) (getD img 3 0) d h (Done N M img d h (group len set)) (refusing N M img d h H (group len set)) len set
+      (ended (group len set) (λ u. member u set) (record { desk = refl; history = refl; numbers = λ _. refl; cuts = λ _. refl }))

@@ -14,6 +14,7 @@ pub mod Invariant
 pub mod Slots
 pub mod MoveQuiet
 pub mod MoveSeal
+pub mod PublishDue
 pub mod MovePublish
 pub mod MoveSettle
 pub mod MoveClear

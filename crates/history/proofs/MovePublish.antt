@@ -13,13 +13,8 @@ use Rattle.history.specs.History.{History, viewAt, ending}
 use Rattle.history.specs.Ledger.{endedWith, ticked, endedAll}
 use Rattle.history.proofs.Copies.{Fresh}
 use Rattle.history.proofs.Book.{Own, ended-last, ended-own, ended-other, ended-view}
+use Rattle.history.proofs.PublishDue.{Sealed, Members}
 use Rattle.history.proofs.Invariant.{Fine, kept, shown, Starts, Live, NoOne, Inv, aside}
-
-abbrev pub Sealed : Session → Type 0
-Sealed idle = ⊥
-Sealed (active b q cs) = ⊥
-Sealed (sealed n q cs) = Unit {0}
-Sealed (published e q cs) = ⊥
 
 -- ---- one session, by whether it passes
 
@@ -71,7 +66,7 @@ sealed-own N v h clock u (sealed n q cs) s f = f .0 .entry
 sealed-own N v h clock u (published m q cs) s f = absurd s
 
 module _ (N M : ℕ) (v : State) (d : Desk) (h : History) (p : ℕ → Bool) (inv : Inv N M v d h)
-    (members : (u : ℕ) → p u ≡ true → (u < M) × Sealed (d .session u)) where
+    (members : Members M d p) where
   abbrev e : ℕ
   e = suc (d .clock)
 

@@ -7,16 +7,15 @@ use mathlib.Core.List.{List, [], _∷_}
 use native.Mathlib.Omega.{arith}
 use lib.Dec.{eqb, leb, ltb}
 use lib.ListN.{length}
-use Rattle.layout.specs.Below.{allBelow, anyBelow}
 use Rattle.layout.specs.Image.{placeOf}
 use Rattle.layout.specs.Told.{Told, is, valueOf, Start, End}
 use Rattle.desk.specs.Coherent.{limit}
-use Rattle.desk.specs.Group.{member}
 use Rattle.history.specs.Call.{Begin, Read, Finish, Find, Call, begin, read, write, abandon, finish, publish, group, settle, reclaim, listen}
 use Rattle.history.specs.Desk.{Copy, find, Session, idle, active, sealed, published, Desk, holder, awaited}
-use Rattle.history.specs.Due.{Due, refuse, begins, readsOther, readsOwn, reads, shownBy, adds, writesHeld, writesOwn, wrote, abandons, finishes, ends, publishes, lowIn, sealedIn, waits, settles, smallest, reclaims, ifNoCopies, hears, leaves, finds, firstShelved, searches, dueOf, due}
+use Rattle.history.specs.Due.{Due, refuse, begins, readsOther, readsOwn, reads, shownBy, adds, writesHeld, writesOwn, wrote, abandons, finishes, waits, settles, smallest, reclaims, ifNoCopies, hears, leaves, finds, firstShelved, searches, dueOf, due}
 use Rattle.history.specs.History.{History, viewAt}
 use Rattle.history.specs.Ledger.{Ledger, candidate, noteDesk}
+use Rattle.history.proofs.PublishDue.{publish-due, group-due}
 
 abbrev pub Timed : Told → ℕ → ℕ → Type 0
 Timed t from to = (is Start t || is End t) ≡ true → (from ≤ valueOf t) × (valueOf t ≤ to)
@@ -137,31 +136,15 @@ module _ (N M : ℕ) (f : ℕ → ℕ) (w : ℕ) (d : Desk) (h : History) where
   begin-fits s false (sealed n q cs) = refused (begin s) 6
   begin-fits s false (published m q cs) = refused (begin s) 6
 
-  -- publish the clock behind it
-  publish-fits : (len s : ℕ) (a b : Bool) (x : Session) → Fits (publish len s) (cond a (cond b (refuse 4) (publishes (d .clock) w x)) (refuse 3))
-  publish-fits len s false b x = refused (publish len s) 3
-  publish-fits len s true true x = refused (publish len s) 4
-  publish-fits len s true false idle = refused (publish len s) 6
-  publish-fits len s true false (active b q cs) = refused (publish len s) 6
-  publish-fits len s true false (sealed n q cs) = λ e. (omega arith, omega arith)
-  publish-fits len s true false (published m q cs) = refused (publish len s) 6
-
-  group-fits : (len set : ℕ) (a b c k : Bool)
-      → Fits (group len set) (cond a (cond b (cond c (cond k (ends (d .clock) w) (refuse 6)) (refuse 4)) (refuse 19)) (refuse 3))
-  group-fits len set false b c k = refused (group len set) 3
-  group-fits len set true false c k = refused (group len set) 19
-  group-fits len set true true false k = refused (group len set) 4
-  group-fits len set true true true false = refused (group len set) 6
-  group-fits len set true true true true = λ e. (omega arith, omega arith)
-
   fits : (c : Call) → Fits c (dueOf N M f w d h c)
   fits (begin s) = begin-fits s (leb M s) (d .session s)
   fits (read s r) = silent (read s r) (dueOf N M f w d h (read s r)) (either (leb M s) _ _ (mute refl) (either (leb N r) _ _ (mute refl) (reads-silent M d h r (d .session s))))
   fits (write s r ws) = silent (write s r ws) (dueOf N M f w d h (write s r ws)) (either (leb M s) _ _ (mute refl) (either (leb N r) _ _ (mute refl) (wrote-silent M f d s r (d .session s))))
   fits (abandon s) = silent (abandon s) (dueOf N M f w d h (abandon s)) (either (leb M s) _ _ (mute refl) (abandons-silent (d .session s)))
   fits (finish len s) = silent (finish len s) (dueOf N M f w d h (finish len s)) (either (leb 48 len) _ _ (either (leb M s) _ _ (mute refl) (finishes-silent N (d .clock) s (d .session s))) (mute refl))
-  fits (publish len s) = publish-fits len s (leb 48 len) (leb M s) (d .session s)
-  fits (group len set) = group-fits len set (leb 48 len) (anyBelow 16 (λ u. member u set)) (allBelow 16 (lowIn M set)) (allBelow 16 (sealedIn d set))
+  -- publish gives the clock behind it
+  fits (publish len s) = publish-due N M f w d h (Fits (publish len s)) (λ k _. refused (publish len s) k) len s (λ _ e. (omega arith, omega arith))
+  fits (group len set) = group-due N M f w d h (Fits (group len set)) (λ k _. refused (group len set) k) len set (λ _ e. (omega arith, omega arith))
   fits (settle len s) = silent (settle len s) (dueOf N M f w d h (settle len s)) (either (leb 48 len) _ _ (either (leb M s) _ _ (mute refl) (settles-silent M d (d .session s))) (mute refl))
   fits (reclaim len s) = silent (reclaim len s) (dueOf N M f w d h (reclaim len s)) (either (leb 48 len) _ _ (either (leb M s) _ _ (mute refl) (reclaims-silent N M f s (candidate f s (d .session s)))) (mute refl))
   fits (listen (Begin s)) = begin-fits s (leb M s) (d .session s)

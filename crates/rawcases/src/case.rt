@@ -1,8 +1,8 @@
-// A case: its call made on its image, desk and trace, and the fields of its line. The functions that have a `requires` are for use
+// A case: its call made on its image, desk and trace, and the fields of its line. The function that has a `requires` is for use
 // inside this crate.
 ghost use mathlib.Core.Path.{_≡_};
 ghost use lib.ListN.{length};
-use crate::group::ask_group;
+use crate::group::asked;
 use crate::input::within;
 use cases::Answered;
 use cases::ListeningRequest;
@@ -70,41 +70,22 @@ fn marked_trace() -> [u64; 64] {
 }
 
 // Makes the call of a case on its image, its desk and its trace.
-fn made(words: &mut [u64], trace: &mut [u64], request: Request) -> Answered
+fn made(words: &mut [u64], trace: &mut [u64], call: u64, set: u64, request: Request) -> Answered
     requires { ⌜ (length (now words) ≡ 2454) × (length (now trace) ≡ 64) ⌝ }
 {
     let end = 654 + within(words[10], 1800);
     let size = within(words[9], 64);
     let four = [words[5], words[6], words[7], words[8]];
     let desk = cases::desk_of(&words[11..654]);
-    cases::ask(
+    asked(
         &mut words[654..end],
         desk,
         &mut trace[..size],
+        call,
+        set,
         request,
         four,
     )
-}
-
-// Publishes the set of a case, which stands where other calls have the session.
-fn published(words: &mut [u64], trace: &mut [u64]) -> Answered
-    requires { ⌜ (length (now words) ≡ 2454) × (length (now trace) ≡ 64) ⌝ }
-{
-    let end = 654 + within(words[10], 1800);
-    let size = within(words[9], 64);
-    let set = (words[3] % 65536) as u16;
-    let desk = cases::desk_of(&words[11..654]);
-    ask_group(&mut words[654..end], desk, &mut trace[..size], set)
-}
-
-// Makes the call of a case: number 20 is group publish, any other a request.
-fn answered(words: &mut [u64], trace: &mut [u64], call: u64, request: Request) -> Answered
-    requires { ⌜ (length (now words) ≡ 2454) × (length (now trace) ≡ 64) ⌝ }
-{
-    if call == 20 {
-        return published(words, trace);
-    }
-    made(words, trace, request)
 }
 
 fn image_digest(words: [u64; 2454]) -> u64 {
@@ -127,7 +108,8 @@ pub fn fields(mut words: [u64; 2454]) -> [u64; 11] {
     let mut trace = marked_trace();
     let request = request_of(words);
     let call = words[0];
-    let r = answered(&mut words, &mut trace, call, request);
+    let set = words[3];
+    let r = made(&mut words, &mut trace, call, set, request);
     let got = r.words;
     let left = r.desk;
     let words_alone = (call == 11) | (call == 12) | (call == 15);

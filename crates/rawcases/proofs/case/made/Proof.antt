@@ -19,17 +19,17 @@ slice-read-within-2 c = search needs
 within-requires-2 : tie.Need-within-requires-2
 within-requires-2 c κs = search needs
 
-slice-read-t10 : tie.Need-slice-read-t10
-slice-read-t10 c = search needs
-
-slice-read-t14 : tie.Need-slice-read-t14
-slice-read-t14 c = search needs
+slice-read-t12 : tie.Need-slice-read-t12
+slice-read-t12 c = search needs
 
 slice-read-t16 : tie.Need-slice-read-t16
 slice-read-t16 c = search needs
 
 slice-read-t18 : tie.Need-slice-read-t18
 slice-read-t18 c = search needs
+
+slice-read-t20 : tie.Need-slice-read-t20
+slice-read-t20 c = search needs
 
 sub-desk-of : tie.Need-sub-desk-of
 sub-desk-of c = search needs
@@ -43,23 +43,23 @@ part-desk-of-end c = search needs
 desk-of-requires : tie.Need-desk-of-requires
 desk-of-requires c κs = search needs
 
-sub-ask : tie.Need-sub-ask
-sub-ask c = search needs
+sub-asked : tie.Need-sub-asked
+sub-asked c = search needs
 
-part-ask-start : tie.Need-part-ask-start
-part-ask-start c = search needs
+part-asked-start : tie.Need-part-asked-start
+part-asked-start c = search needs
 
-part-ask-end : tie.Need-part-ask-end
-part-ask-end c = search needs
+part-asked-end : tie.Need-part-asked-end
+part-asked-end c = search needs
 
-slice-relend-prefix-ask : tie.Need-slice-relend-prefix-ask
-slice-relend-prefix-ask c = search needs
+slice-relend-prefix-asked : tie.Need-slice-relend-prefix-asked
+slice-relend-prefix-asked c = search needs
 
-slice-aggregate-ask : tie.Need-slice-aggregate-ask
-slice-aggregate-ask c = sym (length-take-le ((c .before .before .before .before .before .before .before .before .before) .within2 .result) ((c .before .before .before .before .before .before .before .before .before .before .before .before .before .before .before) .args .trace .now) (search needs))
+slice-aggregate-asked : tie.Need-slice-aggregate-asked
+slice-aggregate-asked c = sym (length-take-le ((c .before .before .before .before .before .before .before .before .before) .within2 .result) ((c .before .before .before .before .before .before .before .before .before .before .before .before .before .before .before) .args .trace .now) (search needs))
 
-ask-requires : tie.Need-ask-requires
-ask-requires c κs = search needs
+asked-requires : tie.Need-asked-requires
+asked-requires c κs = search needs
 
 same-length : tie.Need-same-length
 same-length c = search needs
@@ -79,20 +79,20 @@ made-spec =
     add-end
     slice-read-within-2
     within-requires-2
-    slice-read-t10
-    slice-read-t14
+    slice-read-t12
     slice-read-t16
     slice-read-t18
+    slice-read-t20
     sub-desk-of
     part-desk-of-start
     part-desk-of-end
     desk-of-requires
-    sub-ask
-    part-ask-start
-    part-ask-end
-    slice-relend-prefix-ask
-    slice-aggregate-ask
-    ask-requires
+    sub-asked
+    part-asked-start
+    part-asked-end
+    slice-relend-prefix-asked
+    slice-aggregate-asked
+    asked-requires
     same-length
     same-length-2
     returns)
