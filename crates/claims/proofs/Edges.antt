@@ -35,6 +35,7 @@ edges =
       f = refl;
       g-seals = refl;
       g-refused = refl;
+      g-limit = refl;
       h = refl;
       i = refl;
       j = refl;

@@ -25,7 +25,7 @@ use Rattle.desk.specs.Coherent.{freshB, placesOk, sessionOk, copiesB, coherentB
 use Rattle.desk.specs.Desk.{sessionAt, markAt, isSealed, idleSession}
 use Rattle.desk.specs.Begin.{beginFault, beginRefused, begun, beginReply}
 use Rattle.desk.specs.Entering.{entryFault}
-use Rattle.desk.specs.Group.{member}
+use Rattle.desk.specs.Group.{member, storeFault, setFault, groupFault, groupEntries, groupReply}
 use Rattle.desk.specs.Publish.{publishFault, publishEntries, publishReply}
 use Rattle.desk.specs.Told.{beginTold}
 use Rattle.desk.specs.declared.state.Phase.{Phase}
@@ -52,6 +52,7 @@ use Rattle.claims.specs.Demands.{Demand2, OpeningStores, PublishStores, 
 use Rattle.claims.specs.Edges.{deskOf, oneMark, oneCopy}
 use Rattle.claims.specs.Lives.{Life, AllCome, afterLife, afterLives}
 use Rattle.claims.specs.Fresh.{numberGiven, Gives, Fresh}
+use Rattle.claims.specs.Together.{GroupStores}
 use Rattle.claims.specs.Impostors.{oneByOne, inTurn, endsInTurn, tickingForEach, ticksForEach, firstAlone, endsFirstAlone, showingLater, showsLater, publishesSome}
 use Rattle.claims.specs.Impostors.{Impostors, Change, kindOf, past, telling, relisting, zeroing, miscounting, clearingEarly, waitingForAll, showingSealed, busyOther, heldSealed, sealedCopy, turnsAway, waitsAtOnce, holdsAtOnce, readsZeros, zeroed, doesNothing, storesNothing, saysClean, clearing, clearsOthers, withoutLast, unfencedAt, replaysOne, miscounts, unfenced, oneGroup, sessionOrder, clearsEarly, waitsForAll, showsSealed, namingBy, names, lowestReader, lastReader, newestReader, asRead, asHome, Search, firstEnd, lastEnd, earlyEnd, findingBy, findsBy, openingBy, clockAlone}
 use Rattle.claims.proofs.Abstraction.{txn-of, copiesOf, pack, marked}
@@ -881,9 +882,9 @@ unfolding expected
 wrong-clock change a n h =
     clock-due (past 20 change) both a h together (λ w. refl) 2 refl (rw (changed 20 change both together refl refl) n)
 
-ends-in-turn : (f : Told → Told) → Demand2 (endsInTurn f) → ⊥
+ends-in-turn : (other : Change) → Demand2 (endsInTurn other) → ⊥
 unfolding expected oneByOne
-ends-in-turn f h = wrong-clock (inTurn f) (search depth 9) (rw (clock-after both) refl) h
+ends-in-turn other h = wrong-clock (inTurn other) (search depth 9) (rw (clock-after both) refl) h
 
 ticks-for-each : Demand2 ticksForEach → ⊥
 unfolding expected
@@ -941,27 +942,37 @@ shows-later h =
     go y e = rw (e, mark-after calls 1 1 (omega arith) refl, ended-at 1, ended-at 0, began-at 2) refl
 
 -- session 1 is sealed, and the set is refused: the clock stays, and is the next start
-publishes-some : (k set : ℕ) (f : Told → Told) → refusedBy k (due 2 4 (expected (sealing 1 1 9) .ledger) (group 48 set) .answer) ≡ true
+publishes-some : (k set : ℕ) (other : Change) → refusedBy k (due 2 4 (expected (sealing 1 1 9) .ledger) (group 48 set) .answer) ≡ true
     → due 2 4 (note (group 48 set) (due 2 4 (expected (sealing 1 1 9) .ledger) (group 48 set) .answer) (expected (sealing 1 1 9) .ledger)) (begin 2) .answer ≡ start 1
-    → Demand2 (publishesSome k f) → ⊥
+    → Demand2 (publishesSome k other) → ⊥
 unfolding expected
-publishes-some k set f r s h =
-    clock-due (publishesSome k f) (sealing 1 1 9) (search depth 9) h (group 48 set) (λ w. refl) 1 s
+publishes-some k set other r s h =
+    clock-due (publishesSome k other) (sealing 1 1 9) (search depth 9) h (group 48 set) (λ w. refl) 1 s
     (rw (ap (refusedBy k) (told-next (sealing 1 1 9) (group 48 set)) ∙ r, clock-after (sealing 1 1 9)) refl)
 
 -- session 0 is idle
-publishes-sealed : (f : Told → Told) → Demand2 (publishesSome 6 f) → ⊥
+publishes-sealed : (other : Change) → Demand2 (publishesSome 6 other) → ⊥
 unfolding expected
-publishes-sealed f = publishes-some 6 3 f refl refl
+publishes-sealed other = publishes-some 6 3 other refl refl
 
 -- session 4 is none of four
-publishes-low : (f : Told → Told) → Demand2 (publishesSome 4 f) → ⊥
+publishes-low : (other : Change) → Demand2 (publishesSome 4 other) → ⊥
 unfolding expected
-publishes-low f = publishes-some 4 18 f refl refl
+publishes-low other = publishes-some 4 18 other refl refl
 
-publishes-none : (f : Told → Told) → Demand2 (publishesSome 19 f) → ⊥
+publishes-none : (other : Change) → Demand2 (publishesSome 19 other) → ⊥
 unfolding expected
-publishes-none f = publishes-some 19 0 f refl refl
+publishes-none other = publishes-some 19 0 other refl refl
+
+group-unraised : GroupStores (past 20 (relisting (λ es. []))) → ⊥
+unfolding allBelow anyBelow countBelow first answered shapedB freshB placesOk sessionOk copiesB coherentB member storeFault setFault groupFault groupEntries groupReply
+group-unraised h =
+    eqb-false _ _ refl (ap length (h (set (emptyImage 8 2) 3 3) (deskOf 3 oneMark (oneCopy (Sealed 1)) idleSession) 48 1 refl .as-publish .stores))
+
+group-unfenced : ((img : List ℕ) (d : Desk) (len set : ℕ)
+    → Tidy (groupFault img d len set) (unfencedAt 20 .call img d (group len set) .count) (unfencedAt 20 .call img d (group len set) .entries)) → ⊥
+unfolding allBelow anyBelow countBelow first answered shapedB freshB placesOk sessionOk copiesB coherentB member storeFault setFault groupFault groupEntries groupReply
+group-unfenced h = false≢true (h (set (emptyImage 8 2) 3 3) (deskOf 3 oneMark (oneCopy (Sealed 1)) idleSession) 48 1 .fenced)
 
 pub impostors : Impostors
 impostors =
@@ -999,6 +1010,8 @@ impostors =
       publishes-sealed = publishes-sealed;
       publishes-low = publishes-low;
       publishes-none = publishes-none;
+      group-unraised = group-unraised;
+      group-unfenced = group-unfenced;
       opens-unfenced = opens-unfenced;
       opens-unraised = opens-unraised;
       opens-at-clock = opens-at-clock;

@@ -103,6 +103,7 @@ pub record Edges : Type 0 where
   -- G: clock L - 1 seals; at L, 10
   pub g-seals : finishReply image (finishing (limit - 1)) 48 0 .answer ≡ SealedAt (limit - 1)
   pub g-refused : finishTold (finishReply image (finishing limit) 48 0 .answer) ≡ refusal 10
+  pub g-limit : limit ≡ 4611686018427387904
   -- H: one copy, 7 entries arrive: no log to replay; I: 8 arrive: replayed
   pub h : recoverReply (cutAfter 7) 48 .answer ≡ Clean
   pub i : recoverReply (cutAfter 8) 48 .answer ≡ Replayed 3

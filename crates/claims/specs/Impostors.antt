@@ -7,7 +7,6 @@ use mathlib.Core.List.{List, [], _∷_, _++_}
 use lib.ListN.{length, getD, set as put}
 use lib.Dec.{eqb, leb, ltb}
 use Rattle.layout.specs.Below.{allBelow, anyBelow, countBelow, lowest}
-use Rattle.layout.specs.Ceiling.{passEntries}
 use Rattle.layout.specs.Entries.{Entry, store, fence}
 use Rattle.layout.specs.Image.{recordsOf, homeWords, slotAt, persistAt, occupiedAt}
 use Rattle.layout.specs.Oldest.{oldestOf}
@@ -15,8 +14,7 @@ use Rattle.layout.specs.Tidy.{Tidy}
 use Rattle.layout.specs.Told.{Told, refused, result, refusal, copied, home, wait, nothing, held, cleared, clean, replayed, foundAt, is, isRefusal, refusedBy, wordsTold, Ok, Copy, Home, Wait, Held}
 use Rattle.desk.specs.Desk.{noSession, sessionAt, markAt, copyAt, isSealed, isPublished, withPhase, changed}
 use Rattle.desk.specs.Publish.{ends, publishFault}
-use Rattle.desk.specs.Group.{member}
-use Rattle.desk.specs.Told.{publishTold}
+use Rattle.desk.specs.Group.{member, groupFault}
 use Rattle.desk.specs.declared.state.Phase.the-variants.{Published}
 use Rattle.desk.specs.declared.state.Session.{Session}
 use Rattle.desk.specs.declared.state.Desk.{Desk}
@@ -30,6 +28,7 @@ use Rattle.history.specs.Call.{Listening, Begin, Read, Finish, Find, Call, begi
 use Rattle.claims.specs.Rules.{Reply, Recovery, Rules, tells, searching, storeRules}
 use Rattle.claims.specs.Demands.{Demand2, OpeningStores, PublishStores, Demand3}
 use Rattle.claims.specs.Fresh.{Fresh}
+use Rattle.claims.specs.Together.{GroupStores}
 
 -- ---- the store's rules with a change
 
@@ -355,19 +354,20 @@ setOf (abandon s) = 0
 setOf (group len set) = set
 setOf (listen c) = 0
 
--- the members one after the other, each with an end of its own, whatever is told of it
+-- the members one after the other, each with an end of its own, whatever is told and stored
 unfoldable pub oneByOne : Desk → ℕ → ℕ → Desk
 oneByOne d set zero = d
 oneByOne d set (suc s) =
     let x = oneByOne d set s in
     cond (member s set) (changed x s (withPhase (sessionAt x s) (Published (x .clock + 1))) (x .clock + 1) (x .holders)) x
 
-abbrev pub inTurn : (Told → Told) → Change
-inTurn f img d c y =
-    record { told = f (y .told); entries = y .entries; count = y .count; desk = oneByOne d (setOf c) 16; looks = y .looks }
+abbrev pub inTurn : Change → Change
+inTurn other img d c y =
+    let z = other img d c y in
+    record { told = z .told; entries = z .entries; count = z .count; desk = oneByOne d (setOf c) 16; looks = z .looks }
 
-abbrev pub endsInTurn : (Told → Told) → Rules
-endsInTurn f = past 20 (inTurn f)
+abbrev pub endsInTurn : Change → Rules
+endsInTurn other = past 20 (inTurn other)
 
 -- all members with one end, but the clock goes on by their number
 abbrev pub tickingForEach : Change
@@ -413,21 +413,21 @@ showingLater img d c y =
 abbrev pub showsLater : Rules
 showsLater = past 2 showingLater
 
--- a set that the store refuses with k: its sealed members are published, whatever is told of it
+-- a set that the store refuses with k: its sealed members are published, whatever is told and stored
 unfoldable pub sealedOnes : List Session → ℕ → ℕ → ℕ → List Session
 sealedOnes xs set e zero = xs
 sealedOnes xs set e (suc s) =
     let ys = sealedOnes xs set e s in
     cond (member s set && isSealed (getD ys s noSession .phase)) (put ys s (withPhase (getD ys s noSession) (Published e))) ys
 
-abbrev pub publishingSome : ℕ → (Told → Told) → Change
-publishingSome k f img d c y =
-    let z = ends img d (sealedOnes (d .sessions) (setOf c) (d .clock + 1) 16) in
-    cond (eqb (kindOf c) 20 && refusedBy k (y .told))
-    (record { told = f (publishTold (z .answer)); entries = passEntries img (d .clock + 1); count = z .entries; desk = z .desk; looks = y .looks }) y
+abbrev pub publishingSome : ℕ → Change → Change
+publishingSome k other img d c y =
+    let z = other img d c y in
+    let left = ends img d (sealedOnes (d .sessions) (setOf c) (d .clock + 1) 16) .desk in
+    cond (eqb (kindOf c) 20 && refusedBy k (y .told)) (record { told = z .told; entries = z .entries; count = z .count; desk = left; looks = z .looks }) y
 
-abbrev pub publishesSome : ℕ → (Told → Told) → Rules
-publishesSome k f = changing (publishingSome k f)
+abbrev pub publishesSome : ℕ → Change → Rules
+publishesSome k other = changing (publishingSome k other)
 
 -- ---- the claim
 
@@ -463,16 +463,20 @@ pub record Impostors : Type 0 where
   pub looks-home : Demand3 (findsBy asHome firstEnd) → ⊥
   pub looks-last : Demand3 (findsBy asRead lastEnd) → ⊥
   pub looks-early : Demand3 (findsBy asRead earlyEnd) → ⊥
-  -- a set published one after the other, whatever is told; the clock moved for each member; the end for the first member alone; what
+  -- a set published one after the other, whatever is told and stored; the clock moved for each member; the end for the first member alone; what
   -- the others wrote shown only after a later publish; the sealed members of a set with one that is not, or with one at M, and the clock
-  -- moved for the empty set, whatever is told
-  pub ends-in-turn : (f : Told → Told) → Demand2 (endsInTurn f) → ⊥
+  -- moved for the empty set, whatever is told and stored
+  pub ends-in-turn : (other : Change) → Demand2 (endsInTurn other) → ⊥
   pub ticks-for-each : Demand2 ticksForEach → ⊥
   pub ends-first-alone : Demand2 endsFirstAlone → ⊥
   pub shows-later : Demand2 showsLater → ⊥
-  pub publishes-sealed : (f : Told → Told) → Demand2 (publishesSome 6 f) → ⊥
-  pub publishes-low : (f : Told → Told) → Demand2 (publishesSome 4 f) → ⊥
-  pub publishes-none : (f : Told → Told) → Demand2 (publishesSome 19 f) → ⊥
+  pub publishes-sealed : (other : Change) → Demand2 (publishesSome 6 other) → ⊥
+  pub publishes-low : (other : Change) → Demand2 (publishesSome 4 other) → ⊥
+  pub publishes-none : (other : Change) → Demand2 (publishesSome 19 other) → ⊥
+  -- a group that does not raise word 3, and one that leaves out the fence of its raise
+  pub group-unraised : GroupStores (past 20 (relisting (λ es. []))) → ⊥
+  pub group-unfenced : ((img : List ℕ) (d : Desk) (len set : ℕ)
+      → Tidy (groupFault img d len set) (unfencedAt 20 .call img d (group len set) .count) (unfencedAt 20 .call img d (group len set) .entries)) → ⊥
   -- word 3 stored without its fence, not stored at all, and stored too low by opening; a publish that does not raise, and one that leaves
   -- out the fence of its raise
   pub opens-unfenced : Fresh (openingBy withoutLast) → ⊥
