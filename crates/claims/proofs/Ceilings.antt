@@ -1,23 +1,20 @@
 -- Word 3 is left alone by all but opening and publish; the ceiling in numbers, by computation.
-use Prim.Native.Nat.{ℕ, zero, suc, _+_, _*_, _≤_, _<_}
+use Prim.Native.Nat.{ℕ, zero, suc, _+_, _≤_, _<_}
 use mathlib.Core.Bool.{Bool, true, false, cond, false≢true}
-use mathlib.Core.Path.{_≡_, refl, sym, ap, _∙_}
+use mathlib.Core.Path.{_≡_, refl, sym}
 use mathlib.Core.Logic.{inl, inr, ⊎-elim}
 use mathlib.Core.List.{List, [], _∷_, _++_}
 use native.Mathlib.Omega.{arith}
 use lib.Dec.{eqb}
-use lib.ListN.{length, getD, set, take, replicate, length-set, length-replicate}
+use lib.ListN.{getD, set, take, length-set}
 use lib.Seq.{getD-set-other}
-use borrow.Author.Tests.{eq-eqb}
 use Rattle.layout.specs.Below.{allBelow, anyBelow, countBelow, lowest}
 use Rattle.layout.specs.Ceiling.{passEntries}
-use Rattle.layout.specs.Checks.{unless, first, answered}
-use Rattle.layout.proofs.ChecksLaws.{first-both, unless-zero, answered-zero}
+use Rattle.layout.specs.Checks.{first, answered}
 use Rattle.layout.specs.Entries.{Entry, store, fence, Write, stores, shift}
 use Rattle.layout.specs.Homes.{homesWrites}
-use Rattle.layout.specs.Image.{ceilingOf, recordsOf, inRange, sizeOf, placeOf, slotAt, shapedB, occupiedB}
-use Rattle.layout.specs.Lay.{layFault, layAnswer, emptyImage, laidImage}
-use Rattle.layout.specs.declared.laying.LayAnswer.the-variants.{Refused, Laid}
+use Rattle.layout.specs.Image.{recordsOf, placeOf, slotAt, shapedB, occupiedB}
+use Rattle.layout.specs.Lay.{layFault, laidImage}
 use Rattle.layout.specs.Oldest.{oldestOf}
 use Rattle.layout.specs.Told.{isRefusal}
 use Rattle.journal.specs.Log.{countOf, recOf, wordsOf, denoted, logEntries, unsoundB, sharedB}
@@ -34,14 +31,10 @@ use Rattle.commit.specs.Finish.{finishFault, sealEntries, finishEntries}
 use Rattle.commit.specs.Settle.{settleFault, goHomeEntries, waitsB, settleEntries}
 use Rattle.commit.specs.Reclaim.{reclaimFault, noneLeft, heldB, clearEntries, reclaimEntries}
 use Rattle.claims.specs.Ceilings.{Keeps, CeilingKept, Ceilings}
-use Rattle.claims.specs.Demands.{openingDue, PublishRight, PublishStores}
+use Rattle.claims.specs.Demands.{PublishRight, PublishStores}
 use Rattle.claims.specs.Rules.{storeRules}
-use Rattle.history.specs.Layout.{view}
-use Rattle.history.specs.Log.{Clean}
 use Rattle.history.specs.Looks.{noLooks}
 use Rattle.history.proofs.Cuts.{Stored, stored-take, arrived-word, made-word}
-use Rattle.claims.proofs.CutRecovers.{clean-opens}
-use Rattle.claims.proofs.Recovering.{Whole}
 
 -- ---- on any image and desk
 
@@ -114,44 +107,6 @@ replay img p =
 clear : (img : List ℕ) (d : Desk) (s : ℕ) → Behind (clearEntries img d s)
 clear img d s = (omega arith, tt)
 
--- lay, past its checks
-module _ (n m : ℕ) (img : List ℕ) where
-  passes : layAnswer n m img ≡ Laid → layFault n m (length img) ≡ 0
-  unfolding layAnswer answered
-  passes e = go (layFault n m (length img)) e
-    where
-      go : (k : ℕ) → answered k Refused Laid ≡ Laid → k ≡ 0
-      go zero q = refl
-      go (suc k) q = cc
-
-  laid : layAnswer n m img ≡ Laid → laidImage n m img ≡ emptyImage n m
-  unfolding laidImage
-  laid e = answered-zero _ (λ k. img) (emptyImage n m) (passes e)
-
-  in-range : layAnswer n m img ≡ Laid → inRange n m ≡ true
-  unfolding layFault
-  in-range e = unless-zero (inRange n m) 13 (first-both (unless (inRange n m) 14) _ (passes e) .0)
-
-zeros : (k j : ℕ) → _≡_ {A = ℕ} (getD (replicate k 0) j 0) 0
-zeros zero j = refl
-zeros (suc k) zero = refl
-zeros (suc k) (suc j) = zeros k j
-
-empty-ceiling : (n m : ℕ) → ceilingOf (emptyImage n m) ≡ 0
-empty-ceiling n m = zeros (1 + 4 * n + 44 * m) 0
-
-empty-whole : (n m : ℕ) → inRange n m ≡ true → Whole n m (emptyImage n m)
-unfolding shapedB
-empty-whole n m r = record { shaped = rw (r, eq-eqb _ _ long) refl; records = refl; sessions = refl }
-  where
-    long : length (emptyImage n m) ≡ sizeOf n m
-    long = omega (arith, length-replicate {A = ℕ} (1 + 4 * n + 44 * m) 0)
-
-empty-clean : (n m : ℕ) → Clean (2 * m) (view n (emptyImage n m))
-empty-clean n m p l =
-    let e : slotAt n p ≡ suc (suc (suc (1 + 4 * n + 22 * p))) = omega arith in
-    ap (λ i. getD (emptyImage n m) i 0) e ∙ zeros (1 + 4 * n + 44 * m) (1 + 4 * n + 22 * p)
-
 any-shaped : (img : List ℕ) (w : ℕ) → shapedB (set img 3 w) ≡ shapedB img
 unfolding shapedB
 any-shaped img w = rw (word-stays 0 (omega arith), word-stays 1 (omega arith), word-stays 2 (omega arith), length-set img 3 w) refl
@@ -163,10 +118,6 @@ pub ceiling-kept : CeilingKept
 unfolding finishEntries settleEntries reclaimEntries recoverEntries
 ceiling-kept =
     record {
-      lay = λ n m img e. rw (laid n m img e) (empty-ceiling n m);
-      laid-opens = λ n m img x e.
-          rw (laid n m img e)
-          (clean-opens n m (emptyImage n m) (empty-whole n m (in-range n m img e)) (empty-clean n m) x ∙ ap openingDue (empty-ceiling n m));
       any-shaped = any-shaped;
       finish = λ img d len s.
           keeps (finishEntries img d len s) img

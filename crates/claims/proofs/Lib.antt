@@ -27,6 +27,8 @@ pub mod Views
 pub mod CutRecovers
 pub mod Rows
 pub mod Refusals
+pub mod RecoverDue
+pub mod Opens
 pub mod CallsRight
 pub mod Demands
 pub mod Lives

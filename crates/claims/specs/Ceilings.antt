@@ -7,9 +7,8 @@ use lib.ListN.{set, replicate}
 use Rattle.layout.specs.Crash.{crashed}
 use Rattle.layout.specs.Entries.{Entry, store, fence, made}
 use Rattle.layout.specs.Image.{ceilingOf, shapedB}
-use Rattle.layout.specs.Lay.{emptyImage, layAnswer, laidImage}
+use Rattle.layout.specs.Lay.{emptyImage, laidImage}
 use Rattle.layout.specs.Told.{Told, refusal, ok}
-use Rattle.layout.specs.declared.laying.LayAnswer.the-variants.{Laid}
 use Rattle.desk.specs.Coherent.{limit}
 use Rattle.desk.specs.Desk.{idleSession}
 use Rattle.desk.specs.Publish.{publishEntries, publishReply}
@@ -35,11 +34,8 @@ pub record Keeps (es : List Entry) (img : List ℕ) : Type 0 where
   pub whole : ceilingOf (made es img) ≡ ceilingOf img
   pub cut : (k : ℕ) (sel : ℕ → Bool) → ceilingOf (crashed k sel es img) ≡ ceilingOf img
 
--- what opening, publish and a group store there say OpeningStores, PublishStores and GroupStores
+-- what lay, opening, publish and a group store there say Opens, OpeningStores, PublishStores and GroupStores
 pub record CeilingKept : Type 0 where
-  -- lay writes 0, and what is laid opens
-  pub lay : (n m : ℕ) (img : List ℕ) → layAnswer n m img ≡ Laid → ceilingOf (laidImage n m img) ≡ 0
-  pub laid-opens : (n m : ℕ) (img : List ℕ) (x : ℕ) → layAnswer n m img ≡ Laid → storeRules .opens (laidImage n m img) (48 + x) .told ≡ ok
   -- check 1 does not look at it
   pub any-shaped : (img : List ℕ) (w : ℕ) → shapedB (set img 3 w) ≡ shapedB img
   -- no other call that stores touches it

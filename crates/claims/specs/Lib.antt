@@ -8,6 +8,8 @@ pub mod Fresh
 pub mod Ceilings
 pub mod Together
 pub mod Refusals
+pub mod Recovering
+pub mod Opens
 pub mod Lists
 pub mod Impostors
 pub mod ReelsBack

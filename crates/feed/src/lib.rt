@@ -1,6 +1,5 @@
-// Standard input and output through buffers of fixed size. The functions are public for the programs above: they ask for places within the
-// buffer. What the operating system answers is theirs to hand on: how many bytes a read brought (0 at the end of the input and where a read
-// fails), and whether a write took all.
+// Standard input through a buffer of fixed size. `refill` is public for the programs above: it asks for places within the buffer. What the
+// operating system answers is its to hand on: how many bytes a read brought, 0 at the end of the input and where a read fails.
 ghost use mathlib.Core.Path.{_≡_};
 ghost use Prim.Native.Nat.{_+_, _≤_};
 ghost use lib.ListN.{length, drop};
@@ -28,11 +27,4 @@ pub fn refill(buf: &mut [u8], at: usize, have: usize) -> usize
     shift(buf, at, left);
     let got = libc::read(0, &mut buf[left..]);
     io::count(got, &buf[left..])
-}
-
-// Writes the first n bytes to standard output; the answer is whether all were taken.
-pub fn write_out(buf: &[u8], n: usize) -> bool
-    requires { ⌜ n ≤ length (now buf) ⌝ }
-{
-    io::write_all(1, &buf[..n])
 }

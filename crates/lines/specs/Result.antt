@@ -30,14 +30,18 @@ outcomeText Noted ws = []
 unfoldable pub stepLine : ℕ → Step → Outcome → List ℕ → List ℕ
 stepLine number step outcome words = stepHead number step ++ (outcomeText outcome words ++ (10 ∷ []))
 
+-- a line that prints no step: step number, a word, numbers
+unfoldable pub noteLine : ℕ → List ℕ → List ℕ → List ℕ
+noteLine number word values = headOf number word values ++ (10 ∷ [])
+
 -- an unknown kind, a short body, a first step other than 0 or a later step 0: "bad" after the step number
-unfoldable pub badLine : ℕ → List ℕ
-badLine number = headOf number (98 ∷ 97 ∷ 100 ∷ []) [] ++ (10 ∷ [])
+abbrev pub badLine : ℕ → List ℕ
+badLine number = noteLine number (98 ∷ 97 ∷ 100 ∷ []) []
 
 -- after a cut, with the same step number: "replayed P" for each log
-unfoldable pub replayedLine : ℕ → ℕ → List ℕ
-replayedLine number persist = headOf number (114 ∷ 101 ∷ 112 ∷ 108 ∷ 97 ∷ 121 ∷ 101 ∷ 100 ∷ []) (persist ∷ []) ++ (10 ∷ [])
+abbrev pub replayedLine : ℕ → ℕ → List ℕ
+replayedLine number persist = noteLine number (114 ∷ 101 ∷ 112 ∷ 108 ∷ 97 ∷ 121 ∷ 101 ∷ 100 ∷ []) (persist ∷ [])
 
 -- then "open"
-unfoldable pub openLine : ℕ → List ℕ
-openLine number = headOf number (111 ∷ 112 ∷ 101 ∷ 110 ∷ []) [] ++ (10 ∷ [])
+abbrev pub openLine : ℕ → List ℕ
+openLine number = noteLine number (111 ∷ 112 ∷ 101 ∷ 110 ∷ []) []

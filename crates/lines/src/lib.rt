@@ -5,10 +5,9 @@ mod outcome;
 mod phrase;
 mod text;
 
-pub use line::put_bad;
 pub use line::put_line;
-pub use line::put_open;
-pub use line::put_replayed;
+pub use line::put_note;
 pub use outcome::Outcome;
 pub use text::put_number;
 pub use text::put_numbers;
+pub use text::put_text;

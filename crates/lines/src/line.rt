@@ -1,11 +1,10 @@
 // The lines of the program, put into a lent buffer. Every function here asks for room: they are for the program above, which has shown that
 // there is room before it prints a line.
-ghost use mathlib.Core.List.{[], _∷_};
 ghost use Prim.Native.Nat.{_+_, _≤_};
 ghost use lib.ListN.{length};
 ghost use Rattle.lines.specs.Put.{Put};
 ghost use Rattle.lines.specs.Line.{stepHead};
-ghost use Rattle.lines.specs.Result.{outcomeText, stepLine, badLine, replayedLine, openLine};
+ghost use Rattle.lines.specs.Result.{outcomeText, stepLine, noteLine};
 use crate::outcome::Outcome;
 use crate::phrase::call_of;
 use crate::phrase::read_word;
@@ -67,35 +66,13 @@ pub fn put_line(
     b + 1
 }
 
-// The line of a step that stops the run.
-pub fn put_bad(out: &mut [u8], at: usize, number: u64) -> usize
-    requires { ⌜ at + 80 ≤ length (now out) ⌝ }
-    ensures { λ r. ⌜ Put (badLine number) at (now (out .entry)) (now (out .exit)) r ⌝ }
+// A line that prints no step: the step's number, a word and numbers.
+pub fn put_note(out: &mut [u8], at: usize, number: u64, word: &[u8], values: &[u64]) -> usize
+    requires { ⌜ (at + 80 ≤ length (now out)) × (length (now word) ≤ 16) × (length (now values) ≤ 2) ⌝ }
+    ensures { λ r. ⌜ Put (noteLine number (now (word .entry)) (now (values .entry))) at (now (out .entry)) (now (out .exit)) r ⌝ }
     ensures { λ r. ⌜ r ≤ at + 80 ⌝ }
 {
-    let a = put_head(out, at, number, b"bad", &[]);
-    out[a] = 10;
-    a + 1
-}
-
-// The line of a log that was replayed after a cut.
-pub fn put_replayed(out: &mut [u8], at: usize, number: u64, persist: u64) -> usize
-    requires { ⌜ at + 80 ≤ length (now out) ⌝ }
-    ensures { λ r. ⌜ Put (replayedLine number persist) at (now (out .entry)) (now (out .exit)) r ⌝ }
-    ensures { λ r. ⌜ r ≤ at + 80 ⌝ }
-{
-    let a = put_head(out, at, number, b"replayed", &[persist]);
-    out[a] = 10;
-    a + 1
-}
-
-// The line of the opening after a cut.
-pub fn put_open(out: &mut [u8], at: usize, number: u64) -> usize
-    requires { ⌜ at + 80 ≤ length (now out) ⌝ }
-    ensures { λ r. ⌜ Put (openLine number) at (now (out .entry)) (now (out .exit)) r ⌝ }
-    ensures { λ r. ⌜ r ≤ at + 80 ⌝ }
-{
-    let a = put_head(out, at, number, b"open", &[]);
+    let a = put_head(out, at, number, word, values);
     out[a] = 10;
     a + 1
 }

@@ -7,7 +7,8 @@ ghost use lib.ListN.{length};
 ghost use Rattle.lines.specs.Put.{Put};
 ghost use Rattle.lines.specs.Line.{decimalOf, field, numbers, headOf, resultOf};
 
-fn put_text(out: &mut [u8], at: usize, text: &[u8]) -> usize
+// The bytes of a text.
+pub fn put_text(out: &mut [u8], at: usize, text: &[u8]) -> usize
     requires { ⌜ at + length (now text) ≤ length (now out) ⌝ }
     ensures { λ r. ⌜ Put (now (text .entry)) at (now (out .entry)) (now (out .exit)) r ⌝ }
 {

@@ -1,19 +1,25 @@
 // Reads packed raw cases from standard input, makes the call of each and writes a line of what it answered and left. `model/raw.py` has the
 // formats.
+mod answered;
+mod calls;
 mod case;
-mod group;
+mod desk_words;
+mod digest;
 mod input;
+mod listening_calls;
+mod reel_calls;
+mod store_calls;
 
-use case::fields;
+use case::run;
 use input::unpack;
 
-// Writes the line of a case: its number and its fields, parted by one space. The answer is whether all was taken.
+// Writes the line of a case: its number and its fields, parted by one space. The answer is whether all was taken. The buffer is all line
+// ends at first, so that one stands behind the last field.
 fn write_line(number: u64, fields: [u64; 11]) -> bool {
-    let mut out: [u8; 252] = [0; 252];
+    let mut out: [u8; 252] = [10; 252];
     let a = lines::put_number(&mut out, 0, number);
     let b = lines::put_numbers(&mut out, a, &fields);
-    out[b] = 10;
-    feed::write_out(&out, b + 1)
+    io::write_all(1, &out[0..b + 1])
 }
 
 // The input held is input[at..have]. A turn takes the case that starts it, or reads where it holds no whole one.
@@ -35,7 +41,7 @@ fn main() {
             have = have - at + came;
             at = 0;
         } else {
-            if !write_line(number, fields(words)) {
+            if !write_line(number, run(words)) {
                 return;
             }
             at += size;

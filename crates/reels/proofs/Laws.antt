@@ -4,7 +4,7 @@ use mathlib.Core.Path.{_≡_, refl}
 use mathlib.Core.Bool.{Bool, true, false, cond}
 use mathlib.Core.List.{[], _∷_}
 use native.Mathlib.Omega.{arith}
-use borrow.Author.Tests.{ne-eqb}
+use borrow.Author.Tests.{eq-eqb, ne-eqb}
 use Rattle.layout.specs.Checks.{first}
 use Rattle.snapshot.specs.Own.{zeroWords}
 use Rattle.reels.specs.Reel.{reelOf, wordsOf, shelfB, reelFault, goodB}
@@ -54,5 +54,7 @@ reel-laws =
       unused-read = refl;
       unused-packed = refl;
       unused-written = λ img d s r. refl;
+      refused-written = λ img d s r reel n. rw (ne-eqb _ 0 n);
+      good-written = λ img d s r reel e. rw (eq-eqb _ 0 e);
       hour = hour-long;
     }

@@ -5,9 +5,9 @@ use mathlib.Core.Bool.{true}
 use mathlib.Core.List.{List, [], _∷_}
 use Rattle.desk.specs.declared.state.Desk.{Desk}
 use Rattle.snapshot.specs.Own.{zeroWords}
-use Rattle.snapshot.specs.Write.{writeSays}
+use Rattle.snapshot.specs.Write.{writeSays, writeReply}
 use Rattle.snapshot.specs.declared.writing.WriteAnswer.the-variants.{Refused as WriteRefused}
-use Rattle.reels.specs.Reel.{reelOf, noReel, shelfB}
+use Rattle.reels.specs.Reel.{reelOf, wordsOf, noReel, shelfB, reelFault}
 use Rattle.reels.specs.Pack.{packs, packReply}
 use Rattle.reels.specs.Unpack.{unpacks, unpackReply}
 use Rattle.reels.specs.Write.{writeReelReply}
@@ -27,5 +27,10 @@ pub record ReelLaws : Type 0 where
   pub unused-read : unpackReply zeroWords ≡ unpacks Unused noReel
   pub unused-packed : packReply noReel ≡ packs (PackRefused 15) zeroWords
   pub unused-written : (img : List ℕ) (d : Desk) (s r : ℕ) → writeReelReply img d s r noReel ≡ writeSays d (WriteRefused 15)
+  -- a reel that is not good leaves all as it was, whatever the store would say; a good one is the store's write of its words
+  pub refused-written : (img : List ℕ) (d : Desk) (s r : ℕ) (reel : Reel) → (reelFault reel ≡ 0 → ⊥)
+      → writeReelReply img d s r reel ≡ writeSays d (WriteRefused (reelFault reel))
+  pub good-written : (img : List ℕ) (d : Desk) (s r : ℕ) (reel : Reel) → reelFault reel ≡ 0
+      → writeReelReply img d s r reel ≡ writeReply img d s r (wordsOf reel)
   -- one hour at code 3 is 685 m, whatever the shelf number
   pub hour : (shelf : ℕ) → shelfB shelf ≡ true → lengthAnswer (shelf ∷ 1 ∷ 3 ∷ 3600 ∷ []) ≡ Metres 685

@@ -64,7 +64,8 @@ fn walk_all(
     output: &mut [u8],
     first: Desk,
 )
-    requires { ⌜ (256 ≤ length (now output)) × (length (now image) ≤ length (now before)) × (48 ≤ length (now trace)) ⌝ }
+    requires { ⌜ (256 ≤ length (now output)) × (length (now image) ≤ length (now before)) × (48 ≤ length (now trace))
+        × (35 ≤ length (now input)) × (1732 ≤ length (now image)) ⌝ }
 {
     let mut left: u64 = 18446744073709551615;
     while 0 < left {

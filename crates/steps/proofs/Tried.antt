@@ -6,7 +6,7 @@ use Rattle.codec.specs.Bytes.{little}
 use Rattle.codec.specs.Steps.{stepOf, stepWords, noWords, none, decodeOf}
 use Rattle.lines.specs.Line.{spelled, decimalOf, stepHead}
 use Rattle.steps.specs.Cut.{cutBack}
-use Rattle.lines.specs.Result.{outcomeText, stepLine, badLine, replayedLine, openLine}
+use Rattle.lines.specs.Result.{outcomeText, stepLine, noteLine, badLine, replayedLine, openLine}
 use Rattle.codec.specs.declared.step.Step.{Step}
 use Rattle.codec.specs.declared.step.Step.the-variants.{Lay, Begin, Read, Write, Finish, Publish, Settle, Reclaim, Abandon, Cut}
 use Rattle.lines.specs.declared.outcome.Outcome.the-variants.{Refused, Ok, Start, End as Ended, Sealed, Empty, Own, Copy, Home, Wait, None, Held, Cleared, Cut as WasCut, Noted}
@@ -70,7 +70,7 @@ other-lines : _≡_ {A = List (List ℕ)}
     ∷ (56 ∷ 32 ∷ 111 ∷ 112 ∷ 101 ∷ 110 ∷ 10 ∷ [])
     ∷ (49 ∷ 48 ∷ 32 ∷ 98 ∷ 97 ∷ 100 ∷ 10 ∷ [])
     ∷ [])
-unfolding stepLine stepHead outcomeText decimalOf spelled badLine replayedLine openLine
+unfolding stepLine stepHead outcomeText decimalOf spelled noteLine
 other-lines = refl
 
 -- a whole step that is no write

@@ -1,10 +1,11 @@
 -- Laws of a step that is made: a cut leaves the first of its entries made, a cut step has no use for the words of a write, and the state after a
 -- line is the one that the rules give.
-use Prim.Native.Nat.{ℕ, _≤_}
+use Prim.Native.Nat.{ℕ, _+_, _*_, _≤_}
 use mathlib.Core.Bool.{Bool, true, false, _&&_}
 use mathlib.Core.Path.{_≡_, refl, sym, ap, _∙_}
 use mathlib.Core.List.{List, [], _∷_, _++_}
 use native.Mathlib.Omega.{arith}
+use borrow.Author.Tests.{le-ltb, le-leb}
 use lib.ListN.{length, set, take, drop, length-set}
 use Rattle.layout.specs.Entries.{Entry, store, fence, made, listed}
 use Rattle.layout.specs.Lay.{layAnswer, laidImage}
@@ -22,7 +23,7 @@ use Rattle.codec.specs.declared.step.Step.the-variants.{Lay, Begin, Read, Write
 use Rattle.steps.proofs.ApplyLaws.{applied-counted}
 use Rattle.steps.proofs.CutLaws.{overlaid-same, cut-made}
 use Rattle.turns.specs.declared.state.State.{State}
-use Rattle.turns.specs.Make.{imageSize, laying, memoryOf, storesB, CutWaits, isCutB, shownOf, notedOf, PutsLine, toldOf}
+use Rattle.turns.specs.Make.{imageSize, AllFit, laying, memoryOf, storesB, CutWaits, isCutB, shownOf, notedOf, PutsLine, toldOf}
 use Rattle.turns.specs.State.{putOf, lostOf}
 
 length-made : (es : List Entry) (img : List ℕ) → length (made es img) ≡ length img
@@ -78,6 +79,9 @@ other-words img d len (Cut k) ws ws′ e = refl
 pub cut-words : (s : State) (img : List ℕ) (d : Desk) (len : ℕ) (step : Step) (ws ws′ : List ℕ) {a : Applied} → isCutB s step ≡ true
     → a ≡ appliedOf img d len step ws → a ≡ appliedOf img d len step ws′
 cut-words s img d len step ws ws′ e q = q ∙ other-words img d len step ws ws′ (second (s .cutting) (storesB step) e)
+
+pub all-fit : AllFit
+all-fit memory n m h p q = rw (le-ltb 256 n p, le-ltb 16 m q, le-leb (4 + 4 * n + 44 * m) memory (omega (arith, h, p, q))) refl
 
 -- a cut waits for every step that stores
 pub cut-waits : CutWaits

@@ -1,3 +1,4 @@
 pub mod State
 pub mod Bounds
 pub mod Make
+pub mod Output

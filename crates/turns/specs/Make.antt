@@ -1,5 +1,5 @@
 -- A step made on the store, and the lines that it prints (document 01, "The program").
-use Prim.Native.Nat.{ℕ}
+use Prim.Native.Nat.{ℕ, _+_, _*_, _≤_}
 use mathlib.Core.Bool.{Bool, true, false, not, _&&_, cond}
 use mathlib.Core.List.{List, [], _++_}
 use mathlib.Core.Path.{_≡_}
@@ -21,12 +21,16 @@ use Rattle.codec.specs.declared.step.Step.{Step}
 use Rattle.codec.specs.declared.step.Step.the-variants.{Lay, Begin, Read, Write, Finish, Publish, Settle, Reclaim, Abandon, Cut}
 use Rattle.lines.specs.declared.outcome.Outcome.{Outcome}
 use Rattle.lines.specs.declared.outcome.Outcome.the-variants.{Cut as WasCut}
-use Rattle.turns.specs.State.{putOf, stoppedOf, sizedOf, cutAt, lostOf, cleanOf}
+use Rattle.turns.specs.State.{putOf, overOf, sizedOf, cutAt, lostOf, cleanOf}
 use Rattle.turns.specs.declared.state.State.{State}
 
 -- the words that a step 0 asks for: 4 + 4N + 44M; none where N is above 256, M above 16 or the memory has fewer
 abbrev pub imageSize : ℕ → ℕ → ℕ → ℕ
 imageSize memory n m = cond (ltb 256 n) 0 (cond (ltb 16 m) 0 (cond (leb (sizeOf n m) memory) (sizeOf n m) 0))
+
+-- a memory of 1,732 words has room for every size
+abbrev pub AllFit : Type 0
+AllFit = (memory n m : ℕ) → 1732 ≤ memory → n ≤ 256 → m ≤ 16 → imageSize memory n m ≡ 4 + 4 * n + 44 * m
 
 -- the kinds that store, and that a cut waits for: 4, 5, 6 and 7
 abbrev pub storesB : Step → Bool
@@ -82,9 +86,9 @@ notedOf s (Cut k) = cutAt s k
 abbrev pub toldOf : State → Step → ℕ → State
 toldOf s step p = cond (isCutB s step) (lostOf (putOf (notedOf s step) p)) (putOf (notedOf s step) p)
 
--- "bad", and a refused step 0: the line, and the walk stops
+-- "bad", and a refused step 0: the line, and no more steps are taken
 abbrev pub badOf : State → ℕ → State
-badOf s p = stoppedOf (putOf s p)
+badOf s p = overOf (putOf s p)
 
 -- "replayed P": the recovery goes on
 abbrev pub replayedOf : State → ℕ → State
@@ -116,7 +120,7 @@ layPart memory n m = take (imageSize (length memory) n m) memory
 abbrev pub laying : List ℕ → ℕ → ℕ → LayAnswer
 laying memory n m = layAnswer n m (layPart memory n m)
 
--- refused, it prints its line and stops; accepted, the image has that size and is to be opened
+-- refused, it prints its line, and no more steps are taken; accepted, the image has that size and is to be opened
 abbrev pub laidOf : State → ℕ → LayAnswer → ℕ → State
 laidOf s size (LayRefused k) p = badOf s p
 laidOf s size Laid p = sizedOf (putOf s p) size

@@ -18,6 +18,8 @@ firstState have ended =
       ended = ended;
       lost = false;
       closed = false;
+      over = false;
+      failed = false;
       stopped = false;
     }
 
@@ -37,6 +39,8 @@ placed s at have put number =
       ended = s .ended;
       lost = s .lost;
       closed = s .closed;
+      over = s .over;
+      failed = s .failed;
       stopped = s .stopped;
     }
 
@@ -54,12 +58,14 @@ planned s size cut cutting =
       ended = s .ended;
       lost = s .lost;
       closed = s .closed;
+      over = s .over;
+      failed = s .failed;
       stopped = s .stopped;
     }
 
--- whether the input has ended, the desk is lost, the image is to be opened, the walk stops
+-- whether the input has ended, the desk is lost, the image is to be opened, no more steps are taken
 abbrev pub flagged : State → Bool → Bool → Bool → Bool → State
-flagged s ended lost closed stopped =
+flagged s ended lost closed over =
     record {
       at = s .at;
       have = s .have;
@@ -71,6 +77,27 @@ flagged s ended lost closed stopped =
       ended = ended;
       lost = lost;
       closed = closed;
+      over = over;
+      failed = s .failed;
+      stopped = s .stopped;
+    }
+
+-- whether a write has failed, and whether the walk has stopped
+abbrev pub halted : State → Bool → Bool → State
+halted s failed stopped =
+    record {
+      at = s .at;
+      have = s .have;
+      put = s .put;
+      size = s .size;
+      number = s .number;
+      cut = s .cut;
+      cutting = s .cutting;
+      ended = s .ended;
+      lost = s .lost;
+      closed = s .closed;
+      over = s .over;
+      failed = failed;
       stopped = stopped;
     }
 
@@ -84,25 +111,29 @@ countedOf s bytes = placed s (s .at + bytes) (s .have) (s .put) (s .number + 1)
 abbrev pub putOf : State → ℕ → State
 putOf s p = placed s (s .at) (s .have) p (s .number)
 
--- the lines were written out; the walk stops where the write failed
+-- the lines were written out, or the write failed
 abbrev pub writtenOf : State → Bool → State
-writtenOf s failed = flagged (putOf s 0) (s .ended) (s .lost) (s .closed) failed
+writtenOf s failed = halted (putOf s 0) failed (s .stopped)
 
 -- the bytes held stand first, with `came` more behind them; the input has ended where none came
 abbrev pub filledOf : State → ℕ → State
-filledOf s came = flagged (placed s 0 (s .have - s .at + came) (s .put) (s .number)) (eqb came 0) (s .lost) (s .closed) (s .stopped)
+filledOf s came = flagged (placed s 0 (s .have - s .at + came) (s .put) (s .number)) (eqb came 0) (s .lost) (s .closed) (s .over)
+
+-- no more steps are taken
+abbrev pub overOf : State → State
+overOf s = flagged s (s .ended) (s .lost) (s .closed) true
 
 -- the walk stops
 abbrev pub stoppedOf : State → State
-stoppedOf s = flagged s (s .ended) (s .lost) (s .closed) true
+stoppedOf s = halted s (s .failed) true
 
 -- the image is laid, has this size and is to be opened
 abbrev pub sizedOf : State → ℕ → State
-sizedOf s size = flagged (planned s size (s .cut) (s .cutting)) (s .ended) (s .lost) true (s .stopped)
+sizedOf s size = flagged (planned s size (s .cut) (s .cutting)) (s .ended) (s .lost) true (s .over)
 
 -- the image is opened
 abbrev pub openedOf : State → State
-openedOf s = flagged s (s .ended) (s .lost) false (s .stopped)
+openedOf s = flagged s (s .ended) (s .lost) false (s .over)
 
 -- a cut after k entries waits for the next step that stores
 abbrev pub cutAt : State → ℕ → State
@@ -110,8 +141,8 @@ cutAt s k = planned s (s .size) k true
 
 -- after a cut the desk is lost, and no other cut waits
 abbrev pub lostOf : State → State
-lostOf s = flagged (planned s (s .size) (s .cut) false) (s .ended) true (s .closed) (s .stopped)
+lostOf s = flagged (planned s (s .size) (s .cut) false) (s .ended) true (s .closed) (s .over)
 
 -- the recovery is over, and the image is to be opened
 abbrev pub cleanOf : State → State
-cleanOf s = flagged s (s .ended) false true (s .stopped)
+cleanOf s = flagged s (s .ended) false true (s .over)

@@ -37,7 +37,7 @@ fn image_size(memory: usize, n: u64, m: u64) -> usize
     if size <= memory { size } else { 0 }
 }
 
-// Puts the line "bad"; the walk stops.
+// Puts the line "bad"; no more steps are taken.
 pub fn bad(output: &mut [u8], mut s: State) -> State
     requires { ⌜ s .put + 256 ≤ length (now output) ⌝ }
     ensures { λ r. ⌜ Follows s r (length (now (output .entry))) (s .size) ⌝ }
@@ -45,12 +45,12 @@ pub fn bad(output: &mut [u8], mut s: State) -> State
 {
     let put = s.put;
     let number = s.number;
-    s.put = lines::put_bad(output, put, number);
-    s.stopped = true;
+    s.put = lines::put_note(output, put, number, b"bad", &[]);
+    s.over = true;
     s
 }
 
-// Lays the image, which is then to be opened; refused, the walk stops.
+// Lays the image, which is then to be opened; refused, no more steps are taken.
 pub fn lay_out(image: &mut [u64], output: &mut [u8], mut s: State, n: u64, m: u64) -> State
     requires { ⌜ Ready s (length (now output)) (length (now image)) ⌝ }
     ensures { λ r. ⌜ Follows s r (length (now (output .entry))) (length (now (image .entry))) ⌝ }
@@ -68,7 +68,7 @@ pub fn lay_out(image: &mut [u64], output: &mut [u8], mut s: State, n: u64, m: u6
     match answer {
         LayAnswer::Refused(k) => {
             s.put = lines::put_line(output, put, number, step, Outcome::Refused(k, 0), [0; 4]);
-            s.stopped = true;
+            s.over = true;
             s
         }
         LayAnswer::Laid => {
@@ -226,7 +226,7 @@ fn replayed(output: &mut [u8], mut s: State, persist: u64) -> State
 {
     let put = s.put;
     let number = s.number;
-    s.put = lines::put_replayed(output, put, number, persist);
+    s.put = lines::put_note(output, put, number, b"replayed", &[persist]);
     s
 }
 
@@ -238,7 +238,7 @@ fn recovered(output: &mut [u8], mut s: State) -> State
 {
     let put = s.put;
     let number = s.number;
-    s.put = lines::put_open(output, put, number);
+    s.put = lines::put_note(output, put, number, b"open", &[]);
     s.lost = false;
     s.closed = true;
     s

@@ -7,7 +7,8 @@ ghost use Rattle.turns.specs.State.{firstState, countedOf, writtenOf, fi
 
 // The input held is input[at..have], the lines not yet written are output[..put], the image is the first `size` words (0: not laid yet).
 // `cutting`: of the next step that stores, `cut` entries arrive. `lost`: the desk is lost, and recovery is to come. `closed`: the image is
-// to be opened. `ended`: no more input comes.
+// to be opened. `ended`: no more input comes. `over`: no more steps are taken. `failed`: a write of the lines failed. `stopped`: the last
+// turn is made.
 pub struct State {
     pub at: usize,
     pub have: usize,
@@ -19,6 +20,8 @@ pub struct State {
     pub ended: bool,
     pub lost: bool,
     pub closed: bool,
+    pub over: bool,
+    pub failed: bool,
     pub stopped: bool,
 }
 
@@ -37,6 +40,8 @@ pub fn start(have: usize, ended: bool) -> State
         ended: ended,
         lost: false,
         closed: false,
+        over: false,
+        failed: false,
         stopped: false,
     }
 }
@@ -53,13 +58,13 @@ pub fn counted(mut s: State, bytes: usize) -> State
     s
 }
 
-// The lines were written out; the walk stops where they were not all taken.
+// The lines were written out, or not all of them were taken.
 pub fn written(mut s: State, done: bool) -> State
     ensures { λ r. ⌜ (r .at ≡ s .at) × (r .have ≡ s .have) × (r .put ≡ 0) × (r .size ≡ s .size) × (r .number ≡ s .number) ⌝ }
     ensures { λ r. ⌜ r ≡ writtenOf s (not done) ⌝ }
 {
     s.put = 0;
-    s.stopped = !done;
+    s.failed = !done;
     s
 }
 

@@ -1,6 +1,6 @@
 -- What the turns of a walk leave, from what their parts ensure.
 use Prim.Native.Nat.{ℕ, _+_}
-use mathlib.Core.Bool.{true}
+use mathlib.Core.Bool.{Bool, false}
 use mathlib.Core.List.{List, _++_}
 use mathlib.Core.Path.{_≡_, refl, ap, _∙_}
 use lib.ListN.{length, drop}
@@ -47,7 +47,11 @@ laid-out-by n m w p i = rw i (printed-by (record { memory = memoryOf (w .memory)
 
 -- what is heard in a turn that asks the operating system for nothing
 abbrev pub nothingHeard : List ℕ → Heard
-nothingHeard input = record { input = input; came = 0; done = true }
+nothingHeard input = record { input = input; came = 0; failed = false }
+
+-- and in one that writes
+abbrev pub heardWritten : List ℕ → Bool → Heard
+heardWritten input failed = record { input = input; came = 0; failed = failed }
 
 -- the line "bad"
 pub bad-by : (w : Work) {out : List ℕ} {r : State} → PutsLine (badLine (w .state .number)) (w .state) (badOf (w .state)) (w .output) out r

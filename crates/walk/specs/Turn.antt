@@ -1,8 +1,9 @@
 -- What the next turn of a walk does (document 01, "The program"). Assumes nothing.
-use Prim.Native.Nat.{ℕ, _-_}
+use Prim.Native.Nat.{ℕ}
 use mathlib.Core.List.{List}
-use mathlib.Core.Bool.{Bool, not, _&&_, cond}
-use lib.Dec.{ltb, eqb}
+use mathlib.Core.Path.{_≡_}
+use mathlib.Core.Bool.{Bool, true, false, not, _&&_, cond}
+use lib.Dec.{eqb}
 use Rattle.feed.specs.Feed.{heldOf}
 use Rattle.codec.specs.Steps.{noWords, decodeOf}
 use Rattle.codec.specs.declared.step.Step.{Step}
@@ -13,7 +14,7 @@ use Rattle.codec.specs.declared.decoding.Decoded.{Decoded}
 use Rattle.turns.specs.State.{countedOf}
 use Rattle.turns.specs.declared.state.State.{State}
 use Rattle.walk.specs.declared.turn.Turn.{Turn}
-use Rattle.walk.specs.declared.turn.Turn.the-variants.{Open, Recover, Fill, Call, Lay as LayOut, Bad, End}
+use Rattle.walk.specs.declared.turn.Turn.the-variants.{Open, Recover, Fill, Call, Lay as LayOut, Bad, End, Flush, Fail}
 use Rattle.walk.specs.declared.turn.Taken.{Taken}
 
 -- a step other than 0 is bad where no image is laid: the first step has to be 0
@@ -53,18 +54,40 @@ decodedTurn d s =
       state = countedOf s (d .size);
     }
 
+-- no whole step starts the bytes held: there are none, or the body is short
+abbrev pub lacksB : Found → Bool
+lacksB (Whole step) = false
+lacksB Unknown = false
+lacksB Short = true
+lacksB Nothing = true
+
+-- there are lines that were not written out
+abbrev pub holdsB : State → Bool
+holdsB s = not (eqb (s .put) 0)
+
+-- a step is taken as soon as all of its bytes are there; without one the lines held are written out, and then, unless the input has ended,
+-- more of it is waited for
+abbrev pub readTurn : Decoded → State → Taken
+readTurn d s =
+    cond (lacksB (d .found) && holdsB s) (asideOf Flush s)
+    (cond (lacksB (d .found) && not (s .ended)) (asideOf Fill s)
+    (decodedTurn d s))
+
 -- the next step starts the bytes held
 unfoldable pub takenOf : List ℕ → State → Taken
-takenOf input s = decodedTurn (decodeOf (heldOf input (s .at) (s .have))) s
+takenOf input s = readTurn (decodeOf (heldOf input (s .at) (s .have))) s
 
--- more input may come, and fewer bytes are held than the longest step has: a write's kind and its 34 bytes of body
-abbrev pub hungryB : State → Bool
-hungryB s = not (s .ended) && ltb (s .have - s .at) 35
-
--- an image that was laid or recovered is opened first, a lost desk is recovered, and then the next step is read and taken
+-- a write that failed is told; a walk that takes no more steps writes its lines out and ends; an image that was laid or recovered is opened,
+-- a lost desk is recovered, and then the next step is read and taken
 unfoldable pub turnOf : List ℕ → State → Taken
 turnOf input s =
-    cond (s .closed) (asideOf Open s)
+    cond (s .failed) (asideOf Fail s)
+    (cond (s .over && holdsB s) (asideOf Flush s)
+    (cond (s .over) (asideOf End s)
+    (cond (s .closed) (asideOf Open s)
     (cond (s .lost) (asideOf Recover s)
-    (cond (hungryB s) (asideOf Fill s)
-    (takenOf input s)))
+    (takenOf input s)))))
+
+-- a step that is taken though its body is short: the input had ended
+abbrev pub ShortIsLast : Type 0
+ShortIsLast = (d : Decoded) (s : State) → d .found ≡ Short → readTurn d s .turn ≡ Bad → s .ended ≡ true

@@ -1,7 +1,7 @@
 -- A walk, turn by turn (document 01, "The program"): what one turn leaves of the input, the image, the lines, the desk and the state, and
 -- what a whole walk leaves.
-use Prim.Native.Nat.{ℕ, zero, suc, _+_, _-_}
-use mathlib.Core.Bool.{Bool, true, false, not, cond}
+use Prim.Native.Nat.{ℕ, zero, suc, _+_, _-_, _<_}
+use mathlib.Core.Bool.{Bool, true, false, cond}
 use mathlib.Core.List.{List, _++_}
 use mathlib.Core.Path.{_≡_}
 use mathlib.Core.Logic.{_⊎_}
@@ -21,20 +21,21 @@ use Rattle.lines.specs.Result.{stepLine, badLine}
 use Rattle.steps.specs.Apply.{outcomeOf, appliedOf, appliedEntries}
 use Rattle.steps.specs.declared.applying.Applied.{Applied}
 use Rattle.turns.specs.State.{writtenOf, filledOf, stoppedOf, openedOf}
+use Rattle.turns.specs.Output.{lostText}
 use Rattle.turns.specs.Make.{imageSize, arrivesOf, isCutB, shownOf, toldOf, badOf, resumedLine, resumedOf, laying, laidOf}
 use Rattle.turns.specs.Make.{memoryOf}
-use Rattle.walk.specs.Turn.{turnOf}
+use Rattle.walk.specs.Turn.{asideOf, turnOf}
 use Rattle.turns.specs.declared.state.State.{State}
 use Rattle.walk.specs.declared.turn.Turn.{Turn}
-use Rattle.walk.specs.declared.turn.Turn.the-variants.{Open, Recover, Fill, Call, Lay, Bad, End}
+use Rattle.walk.specs.declared.turn.Turn.the-variants.{Open, Recover, Fill, Call, Lay, Bad, End, Flush, Fail}
 use Rattle.walk.specs.declared.turn.Taken.{Taken}
 
 -- what the operating system answered in a turn: the input buffer as a read left it and the number of bytes that came, and whether a write
--- took all
+-- failed
 pub record Heard : Type 0 where
   pub input : List ℕ
   pub came : ℕ
-  pub done : Bool
+  pub failed : Bool
 
 -- what a turn works on beside the input and the desk: the memory that holds the image, the buffer of the lines, and the state
 pub record Work : Type 0 where
@@ -72,6 +73,14 @@ layingOut n m w =
     (stepLine (w .state .number) (LayStep n m) (outcomeOf (layTold (laying (w .memory) n m))) noWords)
     (laidOf (w .state) (imageSize (length (w .memory)) n m) (laying (w .memory) n m))
 
+-- the lines are written out, and a write that fails is told in the next turn
+abbrev pub flushing : Heard → Work → Work
+flushing h w = inState w (writtenOf (w .state) (h .failed))
+
+-- lines were lost: that is said on standard error, by way of the lines' buffer, and the walk stops
+abbrev pub failing : Work → Work
+failing w = record { memory = w .memory; output = put 0 lostText (w .output); state = stoppedOf (w .state) }
+
 -- a turn that leaves the desk as it is; the others do nothing here
 abbrev pub aside : ℕ → Heard → Turn → Work → Work
 aside len h Open w = w
@@ -81,6 +90,8 @@ aside len h (Call step) w = w
 aside len h (Lay n m) w = layingOut n m w
 aside len h Bad w = printed w (badLine (w .state .number)) (badOf (w .state))
 aside len h End w = inState w (stoppedOf (w .state))
+aside len h Flush w = flushing h w
+aside len h Fail w = failing w
 
 -- a step on the opened store: of its entries those arrive that a cut lets arrive, and its line is told
 abbrev pub calling : Step → Applied → Work → Work → Work
@@ -102,6 +113,8 @@ workAfter len h (Call step) words d w = called len d step words w
 workAfter len h (Lay n m) words d w = aside len h (Lay n m) w
 workAfter len h Bad words d w = aside len h Bad w
 workAfter len h End words d w = aside len h End w
+workAfter len h Flush words d w = aside len h Flush w
+workAfter len h Fail words d w = aside len h Fail w
 
 -- the desk after a turn: an opening gives it, a call changes it
 abbrev pub deskTurned : ℕ → Turn → List ℕ → Desk → Work → Desk
@@ -112,16 +125,20 @@ deskTurned len (Call step) words d w = appliedOf (imageOf w) d len step words .d
 deskTurned len (Lay n m) words d w = d
 deskTurned len Bad words d w = d
 deskTurned len End words d w = d
+deskTurned len Flush words d w = d
+deskTurned len Fail words d w = d
 
--- a read keeps the bytes held and brings others behind them; no other turn touches the input
+-- a read asks for a byte at least, keeps the bytes held and brings others behind them; no other turn touches the input
 abbrev pub Fed : Turn → State → List ℕ → Heard → Type 0
 Fed Open s input h = h .input ≡ input
 Fed Recover s input h = h .input ≡ input
-Fed Fill s input h = Refilled input (s .at) (s .have) (h .input) (h .came)
+Fed Fill s input h = (s .have - s .at < length input) × Refilled input (s .at) (s .have) (h .input) (h .came)
 Fed (Call step) s input h = h .input ≡ input
 Fed (Lay n m) s input h = h .input ≡ input
 Fed Bad s input h = h .input ≡ input
 Fed End s input h = h .input ≡ input
+Fed Flush s input h = h .input ≡ input
+Fed Fail s input h = h .input ≡ input
 
 -- a turn that leaves the desk as it is, with some answer of the operating system
 abbrev pub OtherTurn : ℕ → Turn → List ℕ → Work → List ℕ → Work → Type 0
@@ -140,39 +157,27 @@ sceneOf input memory output d s = record { input = input; work = record { memory
 abbrev pub fullB : Work → Bool
 fullB w = ltb (length (w .output) - w .state .put) 256
 
--- the turn that comes where there is room
+-- the turn that comes: the lines are written out where there is little room for one more
 abbrev pub nextOf : Scene → Taken
-nextOf w = turnOf (w .input) (w .work .state)
+nextOf w = cond (fullB (w .work)) (asideOf Flush (w .work .state)) (turnOf (w .input) (w .work .state))
 
--- the lines are written out; a write that fails stops the walk
-abbrev pub writing : Heard → Scene → Scene
-writing h w = record { input = h .input; work = inState (w .work) (writtenOf (w .work .state) (not (h .done))); desk = w .desk }
-
-abbrev pub acting : ℕ → Heard → Scene → Scene
-acting len h w =
+-- what a turn leaves, by what the operating system answered
+abbrev pub turned : ℕ → Heard → Scene → Scene
+turned len h w =
     record {
       input = h .input;
       work = workAfter len h (nextOf w .turn) (nextOf w .words) (w .desk) (inState (w .work) (nextOf w .state));
       desk = deskTurned len (nextOf w .turn) (nextOf w .words) (w .desk) (inState (w .work) (nextOf w .state));
     }
 
--- what a turn leaves, by what the operating system answered: lines are written out first where there is little room for one more
-abbrev pub turned : ℕ → Heard → Scene → Scene
-turned len h w = cond (fullB (w .work)) (writing h w) (acting len h w)
-
--- what holds of the input that a turn leaves
-abbrev pub InputKept : Bool → Turn → State → List ℕ → Heard → Type 0
-InputKept true turn s input h = h .input ≡ input
-InputKept false turn s input h = Fed turn s input h
-
 -- w′ is what a turn leaves of w, with some answer of the operating system
 abbrev pub OneTurn : ℕ → Scene → Scene → Type 0
-OneTurn len w w′ = (h : Heard) × InputKept (fullB (w .work)) (nextOf w .turn) (nextOf w .state) (w .input) h × (w′ ≡ turned len h w)
+OneTurn len w w′ = (h : Heard) × Fed (nextOf w .turn) (nextOf w .state) (w .input) h × (w′ ≡ turned len h w)
 
--- w is what n turns leave of u
+-- w is what n turns leave of u, none of them made once the walk had stopped
 unfoldable pub Walked : ℕ → ℕ → Scene → Scene → Type 0
 Walked len zero u w = u ≡ w
-Walked len (suc n) u w = (v : Scene) × Walked len n u v × OneTurn len v w
+Walked len (suc n) u w = (v : Scene) × Walked len n u v × (v .work .state .stopped ≡ false) × OneTurn len v w
 
 -- the most turns of a walk
 abbrev pub mostTurns : ℕ

@@ -1,5 +1,6 @@
-// A walk through a step stream. `run` is public for the programs above: it asks for a `before` at least as long as the image, that the
-// bytes said to be held fit the input buffer, for an output with room for a line, and for a trace with room for any list.
+// A walk through a step stream. `run` is public for the programs above: it asks for an input buffer for the longest step, in which the bytes
+// said to be held fit, for memory of the largest image and a `before` at least as long, for a trace with room for any list, and for an output
+// with room for a line.
 ghost use Prim.Native.Nat.{_≤_};
 ghost use lib.ListN.{length};
 ghost use Rattle.turns.specs.State.{firstState};
@@ -28,7 +29,7 @@ pub fn run(
     ended: bool,
 )
     requires { ⌜ (256 ≤ length (now output)) × (have ≤ length (now input)) × (length (now image) ≤ length (now before))
-        × (48 ≤ length (now trace)) ⌝ }
+        × (48 ≤ length (now trace)) × (35 ≤ length (now input)) × (1732 ≤ length (now image)) ⌝ }
     ensures { λ r.
         ⌜ Leaves (length (now (trace .entry)))
         (sceneOf (now (input .entry)) (now (image .entry)) (now (output .entry)) first
@@ -43,5 +44,4 @@ pub fn run(
         s = t.state;
         turns -= 1;
     }
-    feed::write_out(output, s.put);
 }

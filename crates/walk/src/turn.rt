@@ -3,14 +3,14 @@ ghost use mathlib.Core.Path.{_≡_};
 ghost use Prim.Native.Nat.{_+_, _≤_, _<_, _^_};
 ghost use lib.ListN.{length};
 ghost use Rattle.walk.specs.Bounds.{Comes};
-ghost use Rattle.walk.specs.Turn.{stepTurn, foundTurn, asideOf, takenOf, turnOf};
+ghost use Rattle.walk.specs.Turn.{stepTurn, foundTurn, lacksB, asideOf, takenOf, turnOf};
 use codec::Found;
 use codec::Step;
 use turns::State;
 use turns::counted;
 
-// Opens the image, makes a call of recover, reads, makes a step on the opened store, lays the image, or stops, with the line "bad" or
-// without.
+// Opens the image, makes a call of recover, reads, makes a step on the opened store, lays the image, puts the line "bad", stops, writes the
+// lines out, or says that they could not be written and stops.
 pub enum Turn {
     Open,
     Recover,
@@ -19,6 +19,8 @@ pub enum Turn {
     Lay(u64, u64),
     Bad,
     End,
+    Flush,
+    Fail,
 }
 
 // The turn, the words of a write, and the state, behind the step that is taken.
@@ -50,6 +52,18 @@ fn found_turn(found: Found, laid: bool) -> Turn
     }
 }
 
+// Whether no whole step starts the bytes held.
+fn lacks(found: Found) -> bool
+    ensures { λ r. ⌜ r ≡ lacksB found ⌝ }
+{
+    match found {
+        Found::Whole(_) => false,
+        Found::Bad => false,
+        Found::Short => true,
+        Found::End => true,
+    }
+}
+
 // A turn that takes no step.
 fn aside(turn: Turn, s: State) -> Taken
     ensures { λ r. ⌜ r ≡ asideOf turn s ⌝ }
@@ -61,7 +75,7 @@ fn aside(turn: Turn, s: State) -> Taken
     }
 }
 
-// Decodes the next step and counts it.
+// Takes the next step and counts it. Without a whole one it writes out the lines held, and then reads where more may come.
 fn take_step(input: &[u8], s: State) -> Taken
     requires { ⌜ (s .at ≤ s .have) × (s .have ≤ length (now input)) × (s .number + 1 < 2 ^ 64) ⌝ }
     ensures { λ r. ⌜ Comes s r ⌝ }
@@ -73,6 +87,14 @@ fn take_step(input: &[u8], s: State) -> Taken
     let bytes = d.size;
     let words = d.words;
     let found = d.found;
+    let lacking = lacks(found);
+    if lacking & (s.put != 0) {
+        return aside(Turn::Flush, s);
+    }
+    let ended = s.ended;
+    if lacking & !ended {
+        return aside(Turn::Fill, s);
+    }
     let t = counted(s, bytes);
     Taken {
         turn: found_turn(found, t.size != 0),
@@ -81,21 +103,27 @@ fn take_step(input: &[u8], s: State) -> Taken
     }
 }
 
-// The next turn. It reads where the bytes held may be less than a step, and more may come.
+// The next turn, where there is room for a line.
 pub fn next_turn(input: &[u8], s: State) -> Taken
     requires { ⌜ (s .at ≤ s .have) × (s .have ≤ length (now input)) × (s .number + 1 < 2 ^ 64) ⌝ }
     ensures { λ r. ⌜ Comes s r ⌝ }
     ensures { λ r. ⌜ r ≡ turnOf (now (input .entry)) s ⌝ }
 {
+    if s.failed {
+        return aside(Turn::Fail, s);
+    }
+    let over = s.over;
+    if over & (s.put != 0) {
+        return aside(Turn::Flush, s);
+    }
+    if over {
+        return aside(Turn::End, s);
+    }
     if s.closed {
         return aside(Turn::Open, s);
     }
     if s.lost {
         return aside(Turn::Recover, s);
-    }
-    let ended = s.ended;
-    if !ended & (s.have - s.at < 35) {
-        return aside(Turn::Fill, s);
     }
     take_step(input, s)
 }

@@ -1,22 +1,23 @@
 // One turn of a walk. The functions here are for use inside this crate: they ask for places within the buffers and room for a line.
 ghost use mathlib.Core.Path.{_≡_};
-ghost use Prim.Native.Nat.{_+_, _<_, _≤_, _^_};
+ghost use Prim.Native.Nat.{_+_, _-_, _<_, _≤_, _^_};
 ghost use lib.ListN.{length};
-ghost use Rattle.walk.specs.Bounds.{Within};
+ghost use Rattle.walk.specs.Bounds.{Within, Starved};
 ghost use Rattle.walk.specs.Walk.{OtherTurn, sceneOf, OneTurn};
 use crate::turn::Turn;
 use crate::turn::next_turn;
 use store::Desk;
 use turns::State;
 use turns::bad;
+use turns::fail;
 use turns::filled;
+use turns::flush;
 use turns::lay_out;
 use turns::make;
 use turns::opened;
 use turns::resume;
 use turns::stopped;
 use turns::tell;
-use turns::written;
 
 // The desk and the state after a turn.
 pub struct Turned {
@@ -42,7 +43,8 @@ fn other_turn(
     s: State,
     turn: Turn,
 ) -> State
-    requires { ⌜ Within s (length (now input)) (length (now output)) (length (now image)) × (s .put + 256 ≤ length (now output)) ⌝ }
+    requires { ⌜ Within s (length (now input)) (length (now output)) (length (now image)) × (s .put + 256 ≤ length (now output))
+        × Starved turn (s .have - s .at) ⌝ }
     ensures { λ r. ⌜ Within r (length (now (input .entry))) (length (now (output .entry))) (length (now (image .entry)))
         × (r .number ≡ s .number) ⌝ }
     ensures { λ r.
@@ -62,12 +64,14 @@ fn other_turn(
         Turn::Lay(n, m) => lay_out(image, output, s, n, m),
         Turn::Bad => bad(output, s),
         Turn::End => stopped(s),
+        Turn::Flush => flush(output, s),
+        Turn::Fail => fail(output, s),
         Turn::Open => s,
         Turn::Call(_) => s,
     }
 }
 
-// One turn: it writes, where there is little room for a line; or it opens, recovers, reads, makes a step, lays, or stops.
+// One turn: the lines are written out where there is little room for one more; else what comes next.
 pub fn take_turn(
     input: &mut [u8],
     image: &mut [u64],
@@ -86,8 +90,7 @@ pub fn take_turn(
         (sceneOf (now (input .exit)) (now (image .exit)) (now (output .exit)) (r .desk) (r .state)) ⌝ }
 {
     if output.len() - s.put < 256 {
-        let done = feed::write_out(output, s.put);
-        return gives(desk, written(s, done));
+        return gives(desk, flush(output, s));
     }
     let t = next_turn(input, s);
     let turn = t.turn;

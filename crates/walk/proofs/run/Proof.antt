@@ -34,13 +34,13 @@ take-turn-requires : tie.Need-take-turn-requires Inv-loop μ-loop
 take-turn-requires c κs =
     let i = (c .before .before .before .before .before .before .before) .loop .inv in
     let l = goes-on ((c .before .before .before .before .before .before .before) .loop .turns) ((c .before .before .before .before .before .before .before) .loop .s .stopped) ((c .before .before .before .before .before) .if1 .taken) in
-    (i .0, (omega (arith, i .2, i .3, (c .before .before .before .before .before .before .before .before .before .before .before .before .before .before) .pre .2), omega (arith, i .6, l)))
+    (i .0, (omega (arith, i .2, i .3, (c .before .before .before .before .before .before .before .before .before .before .before .before .before .before) .pre .2), omega (arith, i .6, l .0)))
 
 sub-turns : tie.Need-sub-turns Inv-loop μ-loop
-sub-turns c = omega (arith, goes-on ((c .before .before .before .before .before .before .before .before .before .before .before .before .before .before .before .before .before .before .before .before) .loop .turns) ((c .before .before .before .before .before .before .before .before .before .before .before .before .before .before .before .before .before .before .before .before) .loop .s .stopped) ((c .before .before .before .before .before .before .before .before .before .before .before .before .before .before .before .before .before .before) .if1 .taken))
+sub-turns c = omega (arith, goes-on ((c .before .before .before .before .before .before .before .before .before .before .before .before .before .before .before .before .before .before .before .before) .loop .turns) ((c .before .before .before .before .before .before .before .before .before .before .before .before .before .before .before .before .before .before .before .before) .loop .s .stopped) ((c .before .before .before .before .before .before .before .before .before .before .before .before .before .before .before .before .before .before) .if1 .taken) .0)
 
 loop-less : tie.Need-loop-less Inv-loop μ-loop
-loop-less c = omega (arith, goes-on ((c .before .before .before .before .before .before .before .before .before .before .before .before .before .before .before .before .before .before .before .before) .loop .turns) ((c .before .before .before .before .before .before .before .before .before .before .before .before .before .before .before .before .before .before .before .before) .loop .s .stopped) ((c .before .before .before .before .before .before .before .before .before .before .before .before .before .before .before .before .before .before) .if1 .taken))
+loop-less c = omega (arith, goes-on ((c .before .before .before .before .before .before .before .before .before .before .before .before .before .before .before .before .before .before .before .before) .loop .turns) ((c .before .before .before .before .before .before .before .before .before .before .before .before .before .before .before .before .before .before .before .before) .loop .s .stopped) ((c .before .before .before .before .before .before .before .before .before .before .before .before .before .before .before .before .before .before) .if1 .taken) .0)
 
 loop-again : tie.Need-loop-again Inv-loop μ-loop
 loop-again c =
@@ -53,12 +53,9 @@ loop-again c =
       kept (i .3) (search needs),
       kept (i .4) (search needs),
       kept (i .5) (search needs),
-      omega (arith, i .6, t .0 .1, l),
+      omega (arith, i .6, t .0 .1, l .0),
       went-on (i .4) l (i .7) (t .1),
     )
-
-write-out-requires : tie.Need-write-out-requires Inv-loop μ-loop
-write-out-requires c κs = search needs
 
 same-length : tie.Need-same-length Inv-loop μ-loop
 same-length c = search needs
@@ -77,8 +74,8 @@ same-length-5 c = search needs
 
 returns : tie.Need-returns Inv-loop μ-loop
 returns c =
-    let i = (c .before .before .before .before) .loop .inv in
-    (_, rw ((c .before .before .before .before .before) .start .ensures .1) at (went-whole ((c .before .before) .if1 .left) (i .7)), refl, refl, refl)
+    let i = (c .before .before) .loop .inv in
+    (_, rw ((c .before .before .before) .start .ensures .1) at (went-whole (c .if1 .left) (i .7)), refl, refl, refl)
 
 pub run-spec : {M : Type 1} → statement M
 run-spec =
@@ -92,7 +89,6 @@ run-spec =
     sub-turns
     loop-less
     loop-again
-    write-out-requires
     same-length
     same-length-2
     same-length-3

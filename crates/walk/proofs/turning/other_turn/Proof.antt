@@ -1,8 +1,10 @@
-use mathlib.Core.Bool.{true}
+use Prim.Native.Nat.{_-_, _<_}
+use mathlib.Core.Bool.{false}
 use mathlib.Core.Path.{refl, sym}
+use native.Mathlib.Omega.{arith}
 use lib.ListN.{length}
 use lib.Seq.{length-take-le}
-use Rattle.walk.proofs.WalkLaws.{bad-by, recovered-by, laid-out-by, nothingHeard}
+use Rattle.walk.proofs.WalkLaws.{bad-by, recovered-by, laid-out-by, nothingHeard, heardWritten}
 use borrow.Author.Needs.{needs}
 use Rattle.walk.proofs.turning.other_turn.Statement.{statement}
 use Rattle.walk.proofs.turning.other_turn.Tie as tie
@@ -49,8 +51,20 @@ stopped-requires c κs = search needs
 enum-told-5 : tie.Need-enum-told-5
 enum-told-5 c = search needs
 
+flush-requires : tie.Need-flush-requires
+flush-requires c κs = search needs
+
 enum-told-6 : tie.Need-enum-told-6
 enum-told-6 c = search needs
+
+fail-requires : tie.Need-fail-requires
+fail-requires c κs = search needs
+
+enum-told-7 : tie.Need-enum-told-7
+enum-told-7 c = search needs
+
+enum-told-8 : tie.Need-enum-told-8
+enum-told-8 c = search needs
 
 same-length : tie.Need-same-length
 same-length c = search needs
@@ -59,7 +73,10 @@ returns : tie.Need-returns
 returns c =
     let f = c .filled .ensures in
     let b = (c .before .before .before) .refill .ensures in
-    (search needs, rw ((c .before .before .before .before .before) .enum-told .given .1) (record { input = (c .before .before .before) .refill .last .0; came = (c .before .before .before) .refill .result; done = true }, b, refl, rw (f .1)))
+    let p = (c .before .before .before .before .before .before .before .before .before .before .before) .pre in
+    let a = (c .before .before .before .before .before .before .before .before .before .before .before) .args in
+    let room : a .s .have - a .s .at < length (a .input .now) = omega (arith, rw ((c .before .before .before .before .before) .enum-told .given .1) at (p .2), p .0 .longest) in
+    (search needs, rw ((c .before .before .before .before .before) .enum-told .given .1) (record { input = (c .before .before .before) .refill .last .0; came = (c .before .before .before) .refill .result; failed = false }, (room, b), refl, rw (f .1)))
 
 same-length-2 : tie.Need-same-length-2
 same-length-2 c = search needs
@@ -99,11 +116,27 @@ returns-4 c =
 returns-5 : tie.Need-returns-5
 returns-5 c = (search needs, rw ((c .before) .enum-told4 .given .1) (nothingHeard ((c .before .before .before .before .before .before .before) .args .input .now), refl, refl, rw (c .stopped .ensures .1)))
 
+same-length-8 : tie.Need-same-length-8
+same-length-8 c = search needs
+
 returns-6 : tie.Need-returns-6
-returns-6 c = (search needs, rw (c .enum-told5 .given .1) (nothingHeard ((c .before .before .before .before .before .before) .args .input .now), refl, refl, refl))
+returns-6 c =
+    let f = c .flush .ensures in
+    (search needs, rw ((c .before .before) .enum-told5 .given .1) (heardWritten ((c .before .before .before .before .before .before .before .before) .args .input .now) (f .1 .0), refl, refl, rw (f .1 .1)))
+
+same-length-9 : tie.Need-same-length-9
+same-length-9 c = search needs
 
 returns-7 : tie.Need-returns-7
-returns-7 c = (search needs, rw (c .enum-told6 .given .1) (nothingHeard ((c .before .before .before .before .before .before) .args .input .now), refl, refl, refl))
+returns-7 c =
+    let f = (c .before .before) .fail .ensures in
+    (search needs, rw ((c .before .before .before .before) .enum-told6 .given .1) (nothingHeard ((c .before .before .before .before .before .before .before .before .before .before) .args .input .now), refl, refl, rw (f .1 .0, f .1 .1)))
+
+returns-8 : tie.Need-returns-8
+returns-8 c = (search needs, rw (c .enum-told7 .given .1) (nothingHeard ((c .before .before .before .before .before .before) .args .input .now), refl, refl, refl))
+
+returns-9 : tie.Need-returns-9
+returns-9 c = (search needs, rw (c .enum-told8 .given .1) (nothingHeard ((c .before .before .before .before .before .before) .args .input .now), refl, refl, refl))
 
 pub other-turn-spec : {M : Type 1} → statement M
 other-turn-spec =
@@ -123,7 +156,11 @@ other-turn-spec =
     enum-told-4
     stopped-requires
     enum-told-5
+    flush-requires
     enum-told-6
+    fail-requires
+    enum-told-7
+    enum-told-8
     same-length
     returns
     same-length-2
@@ -136,5 +173,9 @@ other-turn-spec =
     same-length-7
     returns-4
     returns-5
+    same-length-8
     returns-6
-    returns-7)
+    same-length-9
+    returns-7
+    returns-8
+    returns-9)

@@ -7,7 +7,7 @@ use Rattle.recovery.specs.declared.opening.OpenReply.{OpenReply}
 use Rattle.steps.specs.declared.applying.Applied.{Applied}
 use Rattle.walk.specs.Walk.{sceneOf, inState}
 use Rattle.walk.proofs.WalkLaws.{called-by}
-use Rattle.walk.proofs.Turns.{written-within, turned}
+use Rattle.walk.proofs.Turns.{follows-within, turned}
 use Rattle.walk.proofs.OneTurnLaws.{written-turn, opened-turn, called-turn, other-turn}
 use borrow.Author.Needs.{needs}
 use Rattle.walk.proofs.turning.take_turn.Statement.{statement}
@@ -16,11 +16,8 @@ use Rattle.walk.proofs.turning.take_turn.Tie as tie
 sub-if1 : tie.Need-sub-if1
 sub-if1 c = search needs
 
-write-out-requires : tie.Need-write-out-requires
-write-out-requires c κs = search needs
-
-written-requires : tie.Need-written-requires
-written-requires c κs = search needs
+flush-requires : tie.Need-flush-requires
+flush-requires c κs = search needs
 
 gives-requires : tie.Need-gives-requires
 gives-requires c κs = search needs
@@ -30,10 +27,9 @@ same-length c = search needs
 
 returns : tie.Need-returns
 returns c =
-    let a = (c .before .before .before .before .before .before .before .before .before .before .before) .args in
-    let e = (c .before) .written .ensures in
-    let a-pre = (c .before .before .before .before .before .before .before .before .before .before .before) .pre in
-    rw (c .gives .ensures) ((written-within (a-pre .0) (e .1), omega (arith, e .0 .4)), written-turn (length (a .trace .now)) (sceneOf (a .input .now) (a .image .now) (a .output .now) (a .desk) (a .s)) ((c .before .before) .write-out .result) (lt-ltb _ _ ((c .before .before .before .before) .if1 .taken)) (e .1))
+    let a = (c .before .before .before .before .before .before .before .before .before .before) .args in
+    let f = (c .before) .flush .ensures in
+    rw (c .gives .ensures) ((follows-within ((c .before .before .before .before .before .before .before .before .before .before) .pre .0) (f .0) (omega arith), omega (arith, f .0 .numbered)), written-turn (length (a .trace .now)) (sceneOf (a .input .now) (a .image .now) (a .output .now) (a .desk) (a .s)) (lt-ltb _ _ ((c .before .before .before) .if1 .taken)) (f .1))
 
 next-turn-requires : tie.Need-next-turn-requires
 next-turn-requires c κs = search needs
@@ -77,7 +73,7 @@ gives-requires-3 : tie.Need-gives-requires-3
 gives-requires-3 c κs = search needs
 
 other-turn-requires : tie.Need-other-turn-requires
-other-turn-requires c κs = search needs
+other-turn-requires c κs = (search needs, search needs, (c .before .before .before .before .before .before) .next-turn .ensures .0 .starved)
 
 gives-requires-4 : tie.Need-gives-requires-4
 gives-requires-4 c κs = search needs
@@ -158,8 +154,7 @@ take-turn-spec =
     tie.close
     (tie.spec
     sub-if1
-    write-out-requires
-    written-requires
+    flush-requires
     gives-requires
     same-length
     returns
