@@ -4,7 +4,8 @@
 
 The streams: two seeds of every kind; streams ten times as long as the program's buffers, with N 256 and M 16 too; every beginning of document 01's
 whole case, the empty one included. Each is fed whole, and most also through a pipe in odd pieces. Then what the operating system may answer: a read
-that fails, an output that takes nothing, a reader that is slow.
+that fails, an output that takes nothing, a reader that is slow. Then the program's edges (`edges.py`). The environment variable REELWALK names
+another program to run.
 """
 
 import multiprocessing
@@ -12,17 +13,18 @@ import os
 import random
 import subprocess
 import sys
+import tempfile
 import threading
 import time
 
 HERE = os.path.dirname(os.path.abspath(__file__))
 sys.path.insert(0, HERE)
 
+import edges  # noqa: E402
 import reelwalk  # noqa: E402
 import streams  # noqa: E402
+from runs import BUFFER, PROGRAM, WHOLE_RUN, Result, content, from_file, watched  # noqa: E402
 
-PROGRAM = os.path.join(HERE, "..", "target", "bin", "reelwalk")
-BUFFER = 65536
 SEEDS = (7001, 7002)
 
 
@@ -66,8 +68,9 @@ def made(way):
 
 
 def fed(data, pieces, wait=0.0):
-    """What the program prints where its input comes in pieces of these sizes, one after the other."""
-    run = subprocess.Popen([PROGRAM], stdin=subprocess.PIPE, stdout=subprocess.PIPE)
+    """The program's result where its input comes in pieces of these sizes, one after the other."""
+    said = tempfile.TemporaryFile()
+    run = watched(subprocess.Popen([PROGRAM], stdin=subprocess.PIPE, stdout=subprocess.PIPE, stderr=said))
 
     def feed():
         at = 0
@@ -87,9 +90,14 @@ def fed(data, pieces, wait=0.0):
     feeder.start()
     out = run.stdout.read()
     feeder.join()
-    if run.wait() != 0:
-        return None
-    return out
+    return Result(out, run.wait(), content(said))
+
+
+def fed_whole(data):
+    """The program's result where its input comes at once."""
+    run = watched(subprocess.Popen([PROGRAM], stdin=subprocess.PIPE, stdout=subprocess.PIPE, stderr=subprocess.PIPE))
+    out, err = run.communicate(data)
+    return Result(out, run.returncode, err)
 
 
 def odd(rng, size):
@@ -107,58 +115,74 @@ def tried(case):
     data = made(way)
     want = reelwalk.output(data)
     rng = random.Random(name)
-    ways = {"whole": lambda: subprocess.run([PROGRAM], input=data, stdout=subprocess.PIPE, check=False).stdout,
-            "odd pieces": lambda: fed(data, odd(rng, len(data)))}
+    ways = {"whole": lambda: fed_whole(data), "a file": lambda: from_file(data), "odd pieces": lambda: fed(data, odd(rng, len(data)))}
     if len(data) < 1500:
         ways["a byte at a time"] = lambda: fed(data, [1] * len(data), 0.0002)
-    return ["%s, %s" % (name, kind) for kind, make in ways.items() if make() != want], want.count(b"\n") * len(ways)
+    return ["%s, %s" % (name, kind) for kind, make in ways.items() if not make().good(want)], want.count(b"\n") * len(ways)
+
+
+def read_fails():
+    """The result where standard input cannot be read."""
+    folder = os.open(HERE, os.O_RDONLY)
+    run = subprocess.run([PROGRAM], stdin=folder, stdout=subprocess.PIPE, stderr=subprocess.PIPE, timeout=WHOLE_RUN, check=False)
+    os.close(folder)
+    return Result(run.stdout, run.returncode, run.stderr)
+
+
+def write_fails(data):
+    """The result where standard output takes nothing, with how much of the input was taken."""
+    said, taken = tempfile.TemporaryFile(), 0
+    with open("/dev/full", "wb") as full:
+        run = watched(subprocess.Popen([PROGRAM], stdin=subprocess.PIPE, stdout=full, stderr=said))
+    try:
+        for at in range(0, len(data), 4096):
+            os.write(run.stdin.fileno(), data[at:at + 4096])
+            taken = at
+    except BrokenPipeError:
+        pass
+    run.stdin.close()
+    return Result(b"", run.wait(), content(said), taken)
+
+
+def read_slowly(data):
+    """The result where standard output is read in small pieces."""
+    said, out, piece = tempfile.TemporaryFile(), b"", b"first"
+    run = watched(subprocess.Popen([PROGRAM], stdin=subprocess.PIPE, stdout=subprocess.PIPE, stderr=said))
+    threading.Thread(target=lambda: (run.stdin.write(data), run.stdin.close())).start()
+    while piece:
+        piece = os.read(run.stdout.fileno(), 3001)
+        out += piece
+    return Result(out, run.wait(), content(said))
 
 
 def answers():
     """What the operating system may answer: each test's name and whether it holds."""
     long = far(4, 256, 16, False)
-    folder = os.open(HERE, os.O_RDONLY)
-    run = subprocess.run([PROGRAM], stdin=folder, stdout=subprocess.PIPE, check=False)
-    os.close(folder)
-    yield "a read that fails is the input's end", run.stdout == b"" and run.returncode == 0
-    with open("/dev/full", "wb") as full:
-        run = subprocess.Popen([PROGRAM], stdin=subprocess.PIPE, stdout=full)
-    taken = 0
-    try:
-        for at in range(0, len(long), 4096):
-            os.write(run.stdin.fileno(), long[at:at + 4096])
-            taken = at
-    except BrokenPipeError:
-        pass
-    run.stdin.close()
-    run.wait()
-    yield "an output that takes nothing stops the walk", taken < len(long) // 2
-    slow = subprocess.Popen([PROGRAM], stdin=subprocess.PIPE, stdout=subprocess.PIPE)
-    threading.Thread(target=lambda: (slow.stdin.write(long), slow.stdin.close())).start()
-    out = b""
-    while True:
-        piece = os.read(slow.stdout.fileno(), 3001)
-        if not piece:
-            break
-        out += piece
-    slow.wait()
-    yield "a slow reader gets every line", out == reelwalk.output(long)
+    yield "a read that fails is the input's end", read_fails().good(b"")
+    run = write_fails(long)
+    yield "an output that takes nothing stops the walk", run.taken < len(long) // 2
+    yield "an output that takes nothing is told", run.told()
+    yield "a slow reader gets every line", read_slowly(long).good(reelwalk.output(long))
 
 
 def main():
-    wrong, lines, count = [], 0, 0
+    wrong, lines, count, looks = [], 0, 0, 0
     with multiprocessing.Pool() as pool:
         for differs, compared in pool.imap_unordered(tried, list(cases())):
             wrong += differs
             lines += compared
             count += 1
+        for differs, looked in pool.imap_unordered(edges.tried, list(edges.tests())):
+            wrong += differs
+            looks += looked
     for name, holds in answers():
         count += 1
         if not holds:
             wrong.append(name)
     for name in wrong:
         print("reelwalk is not as the model: " + name)
-    print("reelwalk against the model: %d streams and answers, %d lines, %d not as they should be" % (count, lines, len(wrong)))
+    print("reelwalk against the model: %d streams and answers, %d lines, %d looks at edges, %d not as they should be"
+          % (count, lines, looks, len(wrong)))
     return 1 if wrong else 0
 
 

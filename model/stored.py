@@ -15,6 +15,7 @@ HERE = os.path.dirname(os.path.abspath(__file__))
 sys.path.insert(0, HERE)
 
 import raw  # noqa: E402
+import rawalone  # noqa: E402
 import rawgroup  # noqa: E402
 import rawlistening  # noqa: E402
 import rawreels  # noqa: E402
@@ -26,8 +27,9 @@ SEEDS = {kind: 14 for kind in streams.KINDS}
 SEEDS.update({"long": 6, "ceiling": 4, "openings": 6, "cuts_publish": 6})
 RAW_SEED = 1
 # What makes the raw cases, each from this number on; of all but the first it is one round.
-RAW_MAKERS = [(0, raw), (rawreels.FIRST, rawreels), (rawlistening.FIRST, rawlistening), (rawgroup.FIRST, rawgroup)]
-RAW_CASES = rawgroup.FIRST + len(rawgroup.TURNS)
+RAW_MAKERS = [(0, raw), (rawreels.FIRST, rawreels), (rawlistening.FIRST, rawlistening), (rawgroup.FIRST, rawgroup),
+              (rawalone.FIRST, rawalone)]
+RAW_CASES = rawalone.FIRST + len(rawalone.TURNS)
 
 
 def schedule(kind_and_seed):

@@ -16,6 +16,7 @@ from collections import Counter
 
 import listening
 import raw
+import rawalone
 import rawgroup
 import rawlistening
 import rawreels
@@ -2051,6 +2052,82 @@ def listening_aims(lib):
     return "%d answers" % len(seen)
 
 
+# ---- raw cases with one cause alone --------------------------------------
+
+@functools.lru_cache(maxsize=None)
+def stored_cases():
+    """The stored raw cases, read back, each with what the model gives."""
+    with open(os.path.join(stored.CRATES, "rawcases", "stdin"), "rb") as file:
+        words = unpacked(file.read())
+    cases, at = [], 0
+    while at < len(words):
+        size = 654 + words[at + 10]
+        cases.append(case_read(words[at:at + size])[0])
+        at += size
+    return [(case, raw.run(case)) for case in cases]
+
+
+def as_stored(files, first, end):
+    """The stored raw cases from first up to end, run by these copies of the model's files."""
+    for number, (case, wanted) in enumerate(stored_cases()[first:end], first):
+        same(raw.run(case, files[raw.library_of(case["call"])]), wanted, "stored case %d" % number)
+    return "%d cases" % (end - first)
+
+
+def older_cases(files):
+    """The stored raw cases without those that have one cause alone."""
+    return as_stored(files, 0, rawalone.FIRST)
+
+
+def alone_cases(files):
+    """Those that have one cause alone."""
+    return as_stored(files, rawalone.FIRST, stored.RAW_CASES)
+
+
+def alone_named():
+    """Two cases written out: a count of 5 over four sound records; a listener with a copy, and 47 words."""
+    image = slot_put(store, laid(store, 4, 1), 0, 1, [0, 1, 2, 3])
+    image[store.slot_at(4, 0) + 1] = 5
+    yield "recover", image, None, 48, (12, 0)
+    image, desk = laid(store, 1, 1), store.begin(store.new_desk(1, 1, 1), 0)["desk"]
+    desk = store.write(image, desk, 0, 0, [1, 2, 3, 4])["desk"]
+    yield "finish listening", image, desk, 47, (3, 0)
+
+
+def alone_like(case):
+    """What a case is about: the call, N and M, the trace, the logs' words that are looked at, the caller's copies."""
+    image, desk = case["image"], case["desk"]
+    logs = [(place, store.persist(image, place), store.log_count(image, place),
+             image[store.slot_at(image[1], place) + 2::5][:4]) for place in store.occupied(image)]
+    held = desk and [(e["phase"], [record for record, _ in store.copies_of(e)]) for e in desk["sessions"]]
+    return case["call"], image[1:3], case["trace"], logs, held
+
+
+def alone_aims(st):
+    """The cases with one cause alone have the stated form, meet their aims, and refused ones leave all; each is new."""
+    before = {tuple(raw.case_words(case)) for case, _ in stored_cases()[:rawalone.FIRST]}
+    seen, answers = [], Counter()
+    for number, (why, answer, value, case) in enumerate(rawalone.TURNS):
+        what = "case %d alone, %s" % (number, why)
+        check_format(case, what)
+        same(stored_cases()[rawalone.FIRST + number][0], case, what + " as it is stored")
+        done = made_unaltered(case)
+        same(answer_of(done), (answer, value), what)
+        if isinstance(answer, int) and answer != 7:
+            desk = store.new_desk(0, 0, 0) if case["call"] == "open" else case["desk"]
+            same((done["desk"], done["image"], done["entries"]), (desk, case["image"], []), what + " leaves all")
+        same(tuple(raw.case_words(case)) in before, False, what + " is there already")
+        seen += [alone_like(case)] if answer in (12, 3) else []
+        answers[case["call"]] += 1
+    same(len(stored_cases()), rawalone.FIRST + len(rawalone.TURNS), "stored cases")
+    for call, image, desk, trace, answer in alone_named():
+        case = dict(raw.blank(call), image=image, desk=desk, trace=trace)
+        same(answer_of(raw.run(case)), answer, "the named case of " + call)
+        same(alone_like(case) in seen, True, "the named case of " + call)
+    return "%d cases by call: %s" % (len(rawalone.TURNS), dict(answers))
+
+
+FILES = {module: module for module in (store, reels, listening)}
 BY_CEILING = [ceiling_opens, ceiling_orders, ceiling_publishes, ceiling_coherence, lives, ceiling_cases]
 BY_GROUP = [group_sets, group_orders, group_raises, group_singles, group_moment, group_cuts, group_ends, group_runs,
             group_cases]
@@ -2063,6 +2140,7 @@ ALL += [(test, store) for test in BY_GROUP + [group_aims]]
 ALL += [(test, reelwalk) for test in BY_WALK]
 ALL += [(test, reels) for test in BY_REELS + [reel_aims]]
 ALL += [(test, listening) for test in BY_LISTENING + [listening_aims]]
+ALL += [(older_cases, FILES), (alone_cases, FILES), (alone_aims, store)]
 
 
 # ---- faulty copies -------------------------------------------------------
@@ -2608,6 +2686,123 @@ LISTENING_FAULTS = [
      "    return store.begin(store.made_idle(desk, session) if again else desk, session)"),
 ]
 
+# The same, of each file: what the stored cases that have one cause alone tell, and no stored case before them. By
+# name, text and text in its place.
+CHECKED_LOG = """    if not 1 <= log_count(image, place) <= 4:
+        return True
+    records = [record for record, _ in log_copies(image, place)]
+    return any(record >= image[1] for record in records) or len(set(records)) < len(records)
+"""
+LOG_COUNT = "    return image[slot_at(image[1], place) + 1]\n"
+TWICE_BUT = "any(records[b] == records[a] for b in range(len(records)) for a in range(b) if (a, b) != (%d, %d))"
+IN_COMMON = """    records = [{record for record, _ in log_copies(image, p)} for p in (one, other)]
+    return bool(records[0] & records[1])
+"""
+COMMON_BUT = """    records = [[record for record, _ in log_copies(image, p)] for p in (one, other)]
+    return any(a == b for i, a in enumerate(records[0]) for j, b in enumerate(records[1]) if (i, j) != (%d, %d))
+"""
+ODD_PAIRS = "at_odds(image, a, b) for a in places for b in places if a < b"
+RECOVER_3 = "    if trace < TRACE_WORDS:\n        return result(no(3), image=image)\n"
+RECOVER_BAD = "bad = [place for place in places if damaged(image, place)]"
+HEADER = """    if len(image) < 4 or image[0] != 1 or not in_range(image[1], image[2]):
+        return False
+    return len(image) == length(image[1], image[2])
+"""
+LAY_14 = "    if not in_range(n, m):\n        return result(no(14), image=image)\n"
+COUNTED = "return all(allowed[e[\"phase\"]][0] <= e[\"count\"] <= allowed[e[\"phase\"]][1]\n               for e in desk[\"sessions\"])"
+ZERO_PLACES = "all(place == [0, ZEROS] for e in desk[\"sessions\"]\n               for place in e[\"places\"][e[\"count\"]:])"
+ZERO_BUT = ("all(place == [0, ZEROS] or (at == %d and place == [0, [word * (i == %d) for i, word in enumerate(place[1])]])\n"
+            "               for e in desk[\"sessions\"] for at, place in enumerate(e[\"places\"]) if at >= e[\"count\"])")
+SLOTTED = "return all(e[\"slot\"] == 0 or (e[\"slot\"] == 1 and e[\"count\"] > 0)\n               for e in desk[\"sessions\"])"
+RECORDED = "if any(record >= desk[\"N\"] for record in records):"
+EMPTY_SLOT = "if persist(image, 2 * session + slot) == 0]"
+FULL_SLOT = "if slot != left_out and persist(image, 2 * session + slot) != 0]"
+HELD_BY = "    if holder is not None:  # another session"
+FINISH_CHECKS = "turned_away(desk, session, image, trace, phase=\"active\")"
+SETTLE_CHECKS = "turned_away(desk, session, image, trace, phase=\"published\")"
+ALONE_STORE = [
+    ("a log with a count of 5 is taken", CHECKED_LOG, CHECKED_LOG.replace("<= 4", "<= 5").replace(
+        "place)]\n", "place)][:4]\n")),
+    *[("the low %d bits of a log's count alone" % bits, LOG_COUNT, LOG_COUNT[:-1] + " %% 2 ** %d\n" % bits) for bits in (8, 32, 63)],
+    *[("a log's record at N is taken at place %d" % place, CHECKED_LOG, CHECKED_LOG.replace(
+        "image[1] for record in records", "image[1] + (at == %d) for at, record in enumerate(records)" % place))
+      for place in (1, 2, 3)],
+    *[("the low %d bits of a log's record alone" % bits, CHECKED_LOG, CHECKED_LOG.replace(
+        "any(record", "any(record %% 2 ** %d" % bits)) for bits in (8, 32, 63)],
+    *[("a log's record twice is taken at places %d and %d" % pair, CHECKED_LOG, CHECKED_LOG.replace(
+        "len(set(records)) < len(records)", TWICE_BUT % pair)) for pair in ((0, 1), (0, 2), (0, 3), (1, 3), (2, 3))],
+    ("a log's record twice is seen in neighbouring places alone", CHECKED_LOG, CHECKED_LOG.replace(
+        "len(set(records)) < len(records)", "any(a == b for a, b in zip(records, records[1:]))")),
+    ("12 is not asked of the third log", RECOVER_BAD, RECOVER_BAD.replace("in places if", "in places[:2] + places[3:] if")),
+    *[("place %d of one log is not compared with place %d of the other" % pair, IN_COMMON, COMMON_BUT % pair)
+      for pair in itertools.product(range(4), repeat=2) if pair not in ((0, 0), (2, 0))],
+    ("13 is asked with the last log alone", ODD_PAIRS, ODD_PAIRS + " and b == places[-1]"),
+    ("13 is asked below place 16 alone", ODD_PAIRS, ODD_PAIRS + " and b < 16"),
+    ("13 is not asked of the second log with later ones", ODD_PAIRS, ODD_PAIRS.replace("a in places", "a in places[:1] + places[2:]")),
+    ("recover takes 47 words where all slots are empty", RECOVER_3, RECOVER_3.replace(
+        "TRACE_WORDS:", "TRACE_WORDS and not (trace == 47 and not occupied(image)):")),
+    ("recover takes 47 words, and 12", RECOVER_3, RECOVER_3.replace(
+        "TRACE_WORDS:", "TRACE_WORDS and not (trace == 47 and any(damaged(image, p) for p in occupied(image))):")),
+    ("recover takes 47 words, and 13", RECOVER_3, RECOVER_3.replace(
+        "TRACE_WORDS:", "TRACE_WORDS and not (trace == 47 and any(" + ODD_PAIRS.replace("places", "occupied(image)") + ")):")),
+    *[("the low %d bits of word 0 alone" % bits, HEADER, HEADER.replace("image[0]", "image[0] %% 2 ** %d" % bits))
+      for bits in (8, 32, 63)],
+    *[("the low 63 bits of the header's word %d alone" % at, HEADER, HEADER.replace("image[%d]" % at, "image[%d] %% 2 ** 63" % at))
+      for at in (1, 2)],
+    ("lay looks at the low 63 bits of N", LAY_14, LAY_14.replace("(n, m)", "(n % 2 ** 63, m)")),
+    ("lay looks at the low 63 bits of M", LAY_14, LAY_14.replace("(n, m)", "(n, m % 2 ** 63)")),
+    ("an active session with a count of 5", "\"active\": (0, 4)", "\"active\": (0, 5)"),
+    ("a sealed session with a count of 5", "\"sealed\": (1, 4)", "\"sealed\": (1, 5)"),
+    *[("the low %d bits of a count alone" % bits, COUNTED, COUNTED.replace("<= e[\"count\"]", "<= e[\"count\"] %% 2 ** %d" % bits))
+      for bits in (8, 32, 63)],
+    ("counts below M alone", COUNTED, COUNTED.replace("desk[\"sessions\"])", "desk[\"sessions\"][:desk[\"M\"]])")),
+    ("counts of fifteen sessions", COUNTED, COUNTED.replace("desk[\"sessions\"])", "desk[\"sessions\"][:15])")),
+    ("the low 63 bits of a start, persist number or end", "<= e[\"number\"] <=", "<= e[\"number\"] % 2 ** 63 <="),
+    *[("the low %d bits of slot %d alone" % (bits, slot), SLOTTED, SLOTTED.replace(
+        "[\"slot\"] == %d" % slot, "[\"slot\"] %% 2 ** %d == %d" % (bits, slot))) for slot in (0, 1) for bits in (8, 32, 63)],
+    ("slots of fifteen sessions", SLOTTED, SLOTTED.replace("desk[\"sessions\"])", "desk[\"sessions\"][:15])")),
+    *[("unused place %d, word %d" % spot, ZERO_PLACES, ZERO_BUT % spot) for spot in ((0, 3), (2, 1), (3, 1))],
+    ("a copy of record N", RECORDED, RECORDED.replace(">=", ">")),
+    *[("the low %d bits of a copied record alone" % bits, RECORDED, RECORDED.replace("(record", "(record %% 2 ** %d" % bits))
+      for bits in (32, 63)],
+    ("records of fifteen sessions", "    for e in desk[\"sessions\"]:\n        records", "    for e in desk[\"sessions\"][:15]:\n        records"),
+    ("marks of 255 records", "in enumerate(desk[\"marks\"]))", "in enumerate(desk[\"marks\"][:255]))"),
+    ("a slot with the number 2^63 is empty", EMPTY_SLOT, EMPTY_SLOT.replace(" == 0", " % 2 ** 63 == 0")),
+    ("a slot with a count of 0 is empty", EMPTY_SLOT, EMPTY_SLOT.replace(
+        "if ", "if log_count(image, 2 * session + slot) == 0 or ")),
+    ("reclaim passes over the number 2^63", FULL_SLOT, FULL_SLOT.replace(" != 0]", " % 2 ** 63 != 0]")),
+    ("reclaim compares the low 63 bits", "if smallest < number:", "if smallest < number % 2 ** 63:"),
+    ("7 not by a holder whose end is above the start", HELD_BY, HELD_BY.replace(
+        "None:", "None and not (desk[\"sessions\"][holder][\"phase\"] == \"published\""
+        " and desk[\"sessions\"][holder][\"number\"] > own[\"number\"]):")),
+    ("finish takes 47 words, and 4", FINISH_CHECKS, FINISH_CHECKS.replace("trace", "trace + (trace == 47 and session == desk[\"M\"])")),
+    ("settle takes 47 words, and 4", SETTLE_CHECKS, SETTLE_CHECKS.replace("trace", "trace + (trace == 47 and session == desk[\"M\"])")),
+    ("finish takes 47 words, and 10", FINISH_CHECKS, FINISH_CHECKS.replace(
+        "trace", "trace + (trace == 47 and desk[\"clock\"] >= L and desk[\"sessions\"][session % 16][\"count\"] > 0)")),
+]
+ALONE_REELS = [
+    ("the low 63 bits of the shelf number", "1 <= shelf <=", "1 <= shelf % 2 ** 63 <="),
+    ("the low 63 bits of carrier 1", "if carrier == 1:", "if carrier % 2 ** 63 == 1:"),
+    *[("the low %d bits of carrier 3" % bits, "if carrier == 3:", "if carrier %% 2 ** %d == 3:" % bits) for bits in (8, 32, 63)],
+]
+TAKES_47 = "trace and trace + (trace == 47%s)"
+ALONE_LISTENING = [
+    ("a listening finish takes 47 words", CHECKS, CHECKS.replace("trace", TAKES_47 % "")),
+    ("a listening finish with one copy takes 47 words", CHECKS, CHECKS.replace(
+        "trace", TAKES_47 % " and session < 16 and desk[\"sessions\"][session][\"count\"] == 1")),
+    ("a listening finish with four copies takes 47 words", CHECKS, CHECKS.replace(
+        "trace", TAKES_47 % " and session < 16 and desk[\"sessions\"][session][\"count\"] == 4")),
+    ("a listening finish that is not active takes 47 words", CHECKS, CHECKS.replace(
+        "trace", TAKES_47 % " and session < desk[\"M\"] and desk[\"sessions\"][session][\"phase\"] != \"active\"")),
+    ("a listening finish from M up takes 47 words", CHECKS, CHECKS.replace("trace", TAKES_47 % " and session >= desk[\"M\"]")),
+    ("a listening finish asks 3 before 2", CHECKS, CHECKS + "    if refusal and refusal[\"number\"] == 2 and trace is not None and trace < 48:\n"
+     "        return store.no(3)\n"),
+    ("session M is refused with 6", CHECKS, CHECKS + "    if refusal and refusal[\"number\"] == 4 and session == desk[\"M\"] < 16:\n"
+     "        return store.no(6)\n"),
+    ("a search looks at the low 63 bits of the number", "if not reels.shelf_right(number):", "if not reels.shelf_right(number % 2 ** 63):"),
+]
+ALONE = [("store.py", ALONE_STORE), ("reels.py", ALONE_REELS), ("listening.py", ALONE_LISTENING)]
+
 # File, its module, the tests that are run on copies of it, those that each must catch every fault alone, and
 # the faults.
 PLANTED = [("store.py", store, BY_STORE, [], STORE_FAULTS),
@@ -2617,14 +2812,34 @@ PLANTED = [("store.py", store, BY_STORE, [], STORE_FAULTS),
            ("listening.py", listening, BY_LISTENING, [listening_cases], LISTENING_FAULTS)]
 
 
+def text_of(name):
+    with open(os.path.join(HERE, name)) as file:
+        return file.read()
+
+
+def copied(text):
+    """A file of the model with this text."""
+    module = types.ModuleType("faulty")
+    exec(compile(text, "faulty", "exec"), module.__dict__)
+    return module
+
+
 def faulty(name, old, new):
     """A copy of one file of the model with one place of its text exchanged."""
-    with open(os.path.join(HERE, name)) as file:
-        text = file.read()
+    text = text_of(name)
     same(text.count(old), 1, "places of %r" % old)
-    module = types.ModuleType("faulty")
-    exec(compile(text.replace(old, new), "faulty", "exec"), module.__dict__)
-    return module
+    return copied(text.replace(old, new))
+
+
+def faulty_files(name, old, new):
+    """Copies of the model's files above one another, with one place of one of them exchanged."""
+    files = {}
+    for module in FILES:
+        file = module.__name__ + ".py"
+        files[module] = faulty(name, old, new) if file == name else copied(text_of(file))
+        for below in list(files)[:-1]:
+            setattr(files[module], below.__name__, files[below])
+    return files
 
 
 def outcome(test, model):
@@ -2661,6 +2876,13 @@ def run_faults():
             planted, missed = planted + 1, missed + (not caught or bool(without))
             print("%-62s %s%s" % (name, ", ".join(caught) or "NOT CAUGHT",
                                   "".join(", NOT BY " + test for test in without)), flush=True)
+    same(catching([older_cases, alone_cases], FILES), [], "no fault")
+    for file, faults in ALONE:
+        for name, old, new in faults:
+            caught = catching([older_cases, alone_cases], faulty_files(file, old, new))
+            planted, missed = planted + 1, missed + (caught != ["alone_cases"])
+            print("%-62s %s%s" % (name, ", ".join(caught) or "NOT CAUGHT",
+                                  ": NOT ONLY BY THE NEW CASES" if "older_cases" in caught else ""), flush=True)
     print("%d faults, %d not caught" % (planted, missed))
     return missed == 0
 

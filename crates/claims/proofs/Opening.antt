@@ -50,7 +50,7 @@ module _ (img : List ℕ) (len : ℕ) (o : openTold (openReply img len .answer) 
       go (suc k) e = absurd (let z : _≡_ {A = ℕ} 0 1 = cc in omega arith)
 
   -- what the checks leave
-  facts : Openable img len
+  pub facts : Openable img len
   facts = openable img len passes
 
   shape : Shaped img
@@ -60,7 +60,7 @@ module _ (img : List ℕ) (len : ℕ) (o : openTold (openReply img len .answer) 
   opens-shaped = says-shaped img .no shape
 
   -- all slots are empty
-  opens-clean : (p : ℕ) → p < 2 * sessionsOf img → persistAt img (recordsOf img) p ≡ 0
+  pub opens-clean : (p : ℕ) → p < 2 * sessionsOf img → persistAt img (recordsOf img) p ≡ 0
   unfolding occupiedB
   opens-clean p l = go (test (eqb (persistAt img (recordsOf img) p) 0))
     where

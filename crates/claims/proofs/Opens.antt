@@ -22,6 +22,7 @@ use Rattle.recovery.specs.Told.{openTold}
 use Rattle.recovery.specs.declared.opening.OpenReply.{OpenReply}
 use Rattle.claims.specs.Rules.{storeRules}
 use Rattle.claims.specs.Recovering.{numberAt, AllEmpty}
+use Rattle.claims.proofs.Opening.{facts, opens-clean}
 use Rattle.claims.specs.Opens.{Fits, Opened, blank, Opens}
 
 module _ (img : List ℕ) (len : ℕ) (f : Fits img) (none : AllEmpty img) (low : ceilingOf img < limit) (room : 48 ≤ len) where
@@ -49,6 +50,17 @@ module _ (img : List ℕ) (len : ℕ) (f : Fits img) (none : AllEmpty img) (low 
         idle = λ s l. let e = getD-replicate {A = Session} 16 s idleSession noSession l in rw (reply, e) (refl, refl);
         unmarked = λ r l. rw reply (getD-replicate {A = ℕ} 256 r 0 0 l);
       }
+
+-- what opens has passed the checks
+only : (img : List ℕ) (len : ℕ) → storeRules .opens img len .told ≡ ok → Fits img × AllEmpty img × (ceilingOf img < limit) × (48 ≤ len)
+only img len o =
+    let f = facts img len o in
+    let r = f .shaped .range in (
+      record { mark = f .shaped .mark; n-low = r .n-low; n-high = r .n-high; m-low = r .m-low; m-high = r .m-high; size = f .shaped .size },
+      opens-clean img len o,
+      f .below,
+      f .room,
+    )
 
 -- zeros behind a header
 zeros : (k j : ℕ) → _≡_ {A = ℕ} (getD (replicate k 0) j 0) 0
@@ -95,6 +107,7 @@ pub opens-all : Opens
 opens-all =
     record {
       opens = opens;
+      only = only;
       lays = λ n m img a b c d size. lays n m a b c d img size;
       laid-opens = λ n m len a b c d room. laid-opens n m a b c d len room;
     }

@@ -38,6 +38,9 @@ pub record Opens : Type 0 where
   -- an image that fits opens where all slots are empty and word 3 is below L, whatever else it holds
   pub opens : (img : List ℕ) (len : ℕ) → Fits img → AllEmpty img → word img 3 < 4611686018427387904 → 48 ≤ len
       → Opened img (storeRules .opens img len)
+  -- and nothing else opens
+  pub only : (img : List ℕ) (len : ℕ) → storeRules .opens img len .told ≡ ok
+      → Fits img × AllEmpty img × (word img 3 < 4611686018427387904) × (48 ≤ len)
   -- every size can be laid, and what was laid opens
   pub lays : (n m : ℕ) (img : List ℕ) → 1 ≤ n → n ≤ 256 → 1 ≤ m → m ≤ 16 → length img ≡ 4 + 4 * n + 44 * m
       → (layTold (layAnswer n m img) ≡ ok) × (laidImage n m img ≡ blank n m)

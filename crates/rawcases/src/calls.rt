@@ -31,26 +31,53 @@ fn step_of(number: u64, session: u64, rec: u64) -> Step {
     }
 }
 
-// Makes a call on an image, a desk and a trace. `model/raw.py` has the numbers.
-pub fn make(image: &mut [u64], desk: Desk, trace: &mut [u64], call: Call) -> Answered {
+// A call of the reel library: numbers 11 to 15.
+fn reel_call(image: &[u64], desk: Desk, call: Call) -> Answered {
+    let number = call.number;
+    let words = call.words;
+    match number {
+        11 => reel_calls::pack(desk, words),
+        12 => reel_calls::unpack(desk, words),
+        13 => reel_calls::read(image, desk, call.session, call.rec),
+        14 => reel_calls::write(image, desk, call.session, call.rec, words),
+        _ => reel_calls::tape_length(desk, words),
+    }
+}
+
+// A call of the listening room: numbers 16 to 19.
+fn listening_call(image: &mut [u64], desk: Desk, trace: &mut [u64], call: Call) -> Answered {
+    let number = call.number;
+    let words = call.words;
+    match number {
+        16 => listening_calls::begin(desk, call.session),
+        17 => listening_calls::read(image, desk, call.session, call.rec),
+        18 => listening_calls::finish(image, desk, trace, call.session),
+        _ => listening_calls::find(image, desk, call.session, words[0]),
+    }
+}
+
+// A call of the store: the other numbers.
+fn store_call(image: &mut [u64], desk: Desk, trace: &mut [u64], call: Call) -> Answered {
     let number = call.number;
     let s = call.session;
-    let rec = call.rec;
     let words = call.words;
     match number {
         0 => store_calls::lay(image, desk, call.n, call.m),
         9 => store_calls::open(image, trace),
         10 => store_calls::recover(image, desk, trace),
-        11 => reel_calls::pack(desk, words),
-        12 => reel_calls::unpack(desk, words),
-        13 => reel_calls::read(image, desk, s, rec),
-        14 => reel_calls::write(image, desk, s, rec, words),
-        15 => reel_calls::tape_length(desk, words),
-        16 => listening_calls::begin(desk, s),
-        17 => listening_calls::read(image, desk, s, rec),
-        18 => listening_calls::finish(image, desk, trace, s),
-        19 => listening_calls::find(image, desk, s, words[0]),
         20 => store_calls::publish_group(image, desk, trace, (s % 65536) as u16),
-        _ => store_calls::apply(image, desk, trace, step_of(number, s, rec), words),
+        _ => store_calls::apply(image, desk, trace, step_of(number, s, call.rec), words),
     }
+}
+
+// Makes a call on an image, a desk and a trace. `model/raw.py` has the numbers.
+pub fn make(image: &mut [u64], desk: Desk, trace: &mut [u64], call: Call) -> Answered {
+    let number = call.number;
+    if (10 < number) & (number < 16) {
+        return reel_call(image, desk, call);
+    }
+    if (15 < number) & (number < 20) {
+        return listening_call(image, desk, trace, call);
+    }
+    store_call(image, desk, trace, call)
 }

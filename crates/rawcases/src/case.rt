@@ -35,11 +35,15 @@ fn shown(has: bool, digest: u64) -> u64 {
     if has { digest } else { 0 }
 }
 
-// The fields of a case whose call is made.
-fn fields(words: [u64; 2454], trace: [u64; 64], r: Answered) -> [u64; 11] {
-    let call = words[0];
+// The digests of the image and of the trace.
+fn digests(words: [u64; 2454], trace: [u64; 64]) -> [u64; 2] {
     let size = within(words[9], 64);
     let end = 654 + within(words[10], 1800);
+    [digest(&words[654..end]), digest(&trace[0..size])]
+}
+
+// The fields of a case whose call is made, by its number, what it answered, and the digests of the image and the trace that it left.
+fn fields(call: u64, r: Answered, digests: [u64; 2]) -> [u64; 11] {
     let got = r.words;
     let left = r.desk;
     let words_alone = (call == 11) | (call == 12) | (call == 15);
@@ -56,8 +60,8 @@ fn fields(words: [u64; 2454], trace: [u64; 64], r: Answered) -> [u64; 11] {
         got[2],
         got[3],
         r.entries,
-        shown(has_image, digest(&words[654..end])),
-        shown(has_trace, digest(&trace[0..size])),
+        shown(has_image, digests[0]),
+        shown(has_trace, digests[1]),
         shown(has_desk, desk_digest(left)),
     ]
 }
@@ -70,5 +74,5 @@ pub fn run(mut words: [u64; 2454]) -> [u64; 11] {
     let desk = desk_of(&words[11..654]);
     let call = call_of(words);
     let r = make(&mut words[654..end], desk, &mut trace[0..size], call);
-    fields(words, trace, r)
+    fields(words[0], r, digests(words, trace))
 }

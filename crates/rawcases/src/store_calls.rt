@@ -49,6 +49,27 @@ pub fn publish_group(image: &mut [u64], desk: Desk, trace: &mut [u64], set: u16)
     }
 }
 
+// The number of a step's answer, and the value that goes with it.
+fn coded(o: Outcome) -> [u64; 2] {
+    match o {
+        Outcome::Refused(k, value) => [k, value],
+        Outcome::Ok => [20, 0],
+        Outcome::Start(start) => [21, start],
+        Outcome::End(end) => [27, end],
+        Outcome::Sealed(persist) => [26, persist],
+        Outcome::Empty => [25, 0],
+        Outcome::Own => [22, 0],
+        Outcome::Copy => [23, 0],
+        Outcome::Home => [24, 0],
+        Outcome::Wait(session) => [28, session],
+        Outcome::None => [29, 0],
+        Outcome::Held(persist) => [30, persist],
+        Outcome::Cleared(persist) => [31, persist],
+        Outcome::Cut => [0, 0],
+        Outcome::Noted => [0, 0],
+    }
+}
+
 // The session call of a step; `words` are those of a write. No step here lays or cuts.
 pub fn apply(
     image: &mut [u64],
@@ -60,23 +81,7 @@ pub fn apply(
     let r = steps::apply(image, desk, trace, step, words);
     let o = r.outcome;
     let read = r.words;
-    let n = r.entries;
     let left = r.desk;
-    match o {
-        Outcome::Refused(k, value) => gives(k, value, read, n, left),
-        Outcome::Ok => gives(20, 0, read, n, left),
-        Outcome::Start(start) => gives(21, start, read, n, left),
-        Outcome::End(end) => gives(27, end, read, n, left),
-        Outcome::Sealed(persist) => gives(26, persist, read, n, left),
-        Outcome::Empty => gives(25, 0, read, n, left),
-        Outcome::Own => gives(22, 0, read, n, left),
-        Outcome::Copy => gives(23, 0, read, n, left),
-        Outcome::Home => gives(24, 0, read, n, left),
-        Outcome::Wait(session) => gives(28, session, read, n, left),
-        Outcome::None => gives(29, 0, read, n, left),
-        Outcome::Held(persist) => gives(30, persist, read, n, left),
-        Outcome::Cleared(persist) => gives(31, persist, read, n, left),
-        Outcome::Cut => gives(0, 0, read, n, left),
-        Outcome::Noted => gives(0, 0, read, n, left),
-    }
+    let code = coded(o);
+    gives(code[0], code[1], read, r.entries, left)
 }

@@ -43,7 +43,7 @@ unfolding lengthAnswer unpackReply reelFault first
 hour-long shelf e = rw (ne-eqb shelf 0 (λ z. omega (arith, shelf-least shelf e)), e) refl
 
 pub reel-laws : ReelLaws
-unfolding packReply unpackReply writeReelReply reelFault first
+unfolding packReply unpackReply writeReelReply lengthAnswer reelFault first
 reel-laws =
     record {
       unpack-packed = λ r e. let g = packed-good r e in rw (good-packs r g) (good-unpacks r g);
@@ -57,4 +57,12 @@ reel-laws =
       refused-written = λ img d s r reel n. rw (ne-eqb _ 0 n);
       good-written = λ img d s r reel e. rw (eq-eqb _ 0 e);
       hour = hour-long;
+      open-reels = refl;
+      cassettes = refl;
+      discs = refl;
+      carriers = refl;
+      shelves = refl;
+      times = refl;
+      order = refl;
+      lengths = refl;
     }

@@ -20,7 +20,7 @@ use Rattle.commit.specs.Settle.{settleFault, oldestReader, settleEntries, settl
 use Rattle.commit.specs.Reclaim.{reclaimFault, reclaimEntries, reclaimReply}
 use Rattle.recovery.specs.Open.{openFault, openEntries, openReply}
 use Rattle.recovery.specs.Recover.{unsoundPlace, tiedBelow, tiesB, recoverFault, firstLog, recoverEntries, recoverRefused, recoverReply}
-use Rattle.store.specs.InDigits.{InDigits, oneDesk, oneBegun, oneIdle, secondDesk, twoDesk, pairIdle}
+use Rattle.store.specs.InDigits.{InDigits, oneDesk, oneBegun, oneIdle, secondDesk, twoDesk, fourDesk, pairIdle}
 
 record DesksCoherent : Type 0 where
   active : coherentB (oneDesk 7 (Active 5)) ≡ true
@@ -32,6 +32,8 @@ record DesksCoherent : Type 0 where
   second : coherentB (secondDesk (Active 8)) ≡ true
   two-active : coherentB (twoDesk 7 (Active 5)) ≡ true
   two-published : coherentB (twoDesk 8 (Published 8)) ≡ true
+  four-active : coherentB (fourDesk 7 (Active 5)) ≡ true
+  four-published : coherentB (fourDesk 8 (Published 8)) ≡ true
   pair-idle : coherentB pairIdle ≡ true
 
 coherent : DesksCoherent
@@ -47,6 +49,8 @@ coherent =
       second = refl;
       two-active = refl;
       two-published = refl;
+      four-active = refl;
+      four-published = refl;
       pair-idle = refl;
     }
 
@@ -67,10 +71,12 @@ in-digits =
       open-laid-desk = refl;
       open-again = refl;
       open-again-desk = refl;
+      open-too-long = refl;
       finish-one = rw (coherent .active);
       finish-one-desk = rw (coherent .active);
       finish-two = rw (coherent .two-active);
       finish-two-desk = rw (coherent .two-active);
+      finish-four = rw (coherent .four-active);
       write-second = rw (coherent .begun);
       finish-second = rw (coherent .second);
       finish-second-desk = rw (coherent .second);
@@ -81,6 +87,7 @@ in-digits =
       settle-one-desk = rw (coherent .published);
       settle-two = rw (coherent .two-published);
       settle-two-desk = rw (coherent .two-published);
+      settle-four = rw (coherent .four-published);
       reclaim-one = rw (coherent .idle);
       reclaim-one-desk = rw (coherent .idle);
       reclaim-held = rw (coherent .pair-idle);
@@ -88,6 +95,10 @@ in-digits =
       recover-first = refl;
       recover-next = refl;
       recover-clean = refl;
+      recover-four = refl;
+      recover-at-n = refl;
+      recover-count-five = refl;
       recover-tied = refl;
+      recover-tied-across = refl;
       recover-even = refl;
     }

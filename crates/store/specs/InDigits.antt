@@ -6,7 +6,7 @@ use mathlib.Core.List.{List, [], _∷_, _++_}
 use lib.ListN.{length, replicate}
 use Rattle.layout.specs.Entries.{Entry, made, listed}
 use Rattle.layout.specs.Lay.{layAnswer, laidImage}
-use Rattle.layout.specs.Told.{Told, refusal, ok, sealedAt, endedAt, held, cleared, clean, replayed, layTold}
+use Rattle.layout.specs.Told.{Told, refused, refusal, ok, sealedAt, endedAt, held, cleared, clean, replayed, layTold}
 use Rattle.desk.specs.Desk.{zeroCopy, idleSession}
 use Rattle.desk.specs.Publish.{publishReply, publishEntries}
 use Rattle.desk.specs.Told.{publishTold}
@@ -99,6 +99,23 @@ oneSecond =
     7 ∷ 1 ∷ 0 ∷ 501 ∷ 502 ∷ 503 ∷ 504 ∷ 207 ∷ 208 ∷ 209 ∷ 210 ∷ 211 ∷ 212 ∷ 213 ∷ 214 ∷ 215 ∷ 216 ∷ 217 ∷ 218 ∷ 219 ∷ 220 ∷ 221 ∷  -- slot 0
     8 ∷ 1 ∷ 0 ∷ 521 ∷ 522 ∷ 523 ∷ 524 ∷ 307 ∷ 308 ∷ 309 ∷ 310 ∷ 311 ∷ 312 ∷ 313 ∷ 314 ∷ 315 ∷ 316 ∷ 317 ∷ 318 ∷ 319 ∷ 320 ∷ 321 ∷ []  -- slot 1
 
+-- an occupied slot 0 with record 1, which is N
+abbrev pub oneAtN : List ℕ
+oneAtN =
+    1 ∷ 1 ∷ 1 ∷ 1025 ∷  -- header
+    101 ∷ 102 ∷ 103 ∷ 104 ∷  -- record 0
+    3 ∷ 1 ∷ 1 ∷ 511 ∷ 512 ∷ 513 ∷ 514 ∷ 207 ∷ 208 ∷ 209 ∷ 210 ∷ 211 ∷ 212 ∷ 213 ∷ 214 ∷ 215 ∷ 216 ∷ 217 ∷ 218 ∷ 219 ∷ 220 ∷ 221 ∷  -- slot 0
+    0 ∷ 301 ∷ 302 ∷ 303 ∷ 304 ∷ 305 ∷ 306 ∷ 307 ∷ 308 ∷ 309 ∷ 310 ∷ 311 ∷ 312 ∷ 313 ∷ 314 ∷ 315 ∷ 316 ∷ 317 ∷ 318 ∷ 319 ∷ 320 ∷ 321 ∷ []  -- slot 1
+
+-- both slots empty, and a word too many: 53
+abbrev pub oneLong : List ℕ
+oneLong =
+    1 ∷ 1 ∷ 1 ∷ 1025 ∷  -- header
+    101 ∷ 102 ∷ 103 ∷ 104 ∷  -- record 0
+    0 ∷ 201 ∷ 202 ∷ 203 ∷ 204 ∷ 205 ∷ 206 ∷ 207 ∷ 208 ∷ 209 ∷ 210 ∷ 211 ∷ 212 ∷ 213 ∷ 214 ∷ 215 ∷ 216 ∷ 217 ∷ 218 ∷ 219 ∷ 220 ∷ 221 ∷  -- slot 0
+    0 ∷ 301 ∷ 302 ∷ 303 ∷ 304 ∷ 305 ∷ 306 ∷ 307 ∷ 308 ∷ 309 ∷ 310 ∷ 311 ∷ 312 ∷ 313 ∷ 314 ∷ 315 ∷ 316 ∷ 317 ∷ 318 ∷ 319 ∷ 320 ∷ 321 ∷  -- slot 1
+    322 ∷ []  -- one more
+
 -- ---- images with N 2 and M 1, 56 words: record 0 in 4 to 7, record 1 in 8 to 11, slot 0 in 12 to 33, slot 1 in 34 to 55
 
 -- as laid
@@ -173,6 +190,15 @@ twoTied =
     4 ∷ 1 ∷ 1 ∷ 511 ∷ 512 ∷ 513 ∷ 514 ∷ 207 ∷ 208 ∷ 209 ∷ 210 ∷ 211 ∷ 212 ∷ 213 ∷ 214 ∷ 215 ∷ 216 ∷ 217 ∷ 218 ∷ 219 ∷ 220 ∷ 221 ∷  -- slot 0
     4 ∷ 2 ∷ 1 ∷ 611 ∷ 612 ∷ 613 ∷ 614 ∷ 0 ∷ 601 ∷ 602 ∷ 603 ∷ 604 ∷ 312 ∷ 313 ∷ 314 ∷ 315 ∷ 316 ∷ 317 ∷ 318 ∷ 319 ∷ 320 ∷ 321 ∷ []  -- slot 1
 
+-- two logs of one number, with record 1 in common: at place 0 of the one and at place 1 of the other
+abbrev pub twoAcross : List ℕ
+twoAcross =
+    1 ∷ 2 ∷ 1 ∷ 1025 ∷  -- header
+    101 ∷ 102 ∷ 103 ∷ 104 ∷  -- record 0
+    111 ∷ 112 ∷ 113 ∷ 114 ∷  -- record 1
+    4 ∷ 1 ∷ 1 ∷ 511 ∷ 512 ∷ 513 ∷ 514 ∷ 207 ∷ 208 ∷ 209 ∷ 210 ∷ 211 ∷ 212 ∷ 213 ∷ 214 ∷ 215 ∷ 216 ∷ 217 ∷ 218 ∷ 219 ∷ 220 ∷ 221 ∷  -- slot 0
+    4 ∷ 2 ∷ 0 ∷ 601 ∷ 602 ∷ 603 ∷ 604 ∷ 1 ∷ 611 ∷ 612 ∷ 613 ∷ 614 ∷ 312 ∷ 313 ∷ 314 ∷ 315 ∷ 316 ∷ 317 ∷ 318 ∷ 319 ∷ 320 ∷ 321 ∷ []  -- slot 1
+
 -- two logs of one number, with no record in common
 abbrev pub twoEven : List ℕ
 twoEven =
@@ -190,6 +216,68 @@ twoEvenFirst =
     511 ∷ 512 ∷ 513 ∷ 514 ∷  -- record 1
     0 ∷ 1 ∷ 1 ∷ 511 ∷ 512 ∷ 513 ∷ 514 ∷ 207 ∷ 208 ∷ 209 ∷ 210 ∷ 211 ∷ 212 ∷ 213 ∷ 214 ∷ 215 ∷ 216 ∷ 217 ∷ 218 ∷ 219 ∷ 220 ∷ 221 ∷  -- slot 0
     4 ∷ 1 ∷ 0 ∷ 601 ∷ 602 ∷ 603 ∷ 604 ∷ 307 ∷ 308 ∷ 309 ∷ 310 ∷ 311 ∷ 312 ∷ 313 ∷ 314 ∷ 315 ∷ 316 ∷ 317 ∷ 318 ∷ 319 ∷ 320 ∷ 321 ∷ []  -- slot 1
+
+-- ---- images with N 4 and M 1, 64 words: record 0 in 4 to 7, record 1 in 8 to 11, record 2 in 12 to 15, record 3 in 16 to 19, slot 0 in
+-- 20 to 41, slot 1 in 42 to 63
+
+-- both slots empty
+abbrev pub fourEmpty : List ℕ
+fourEmpty =
+    1 ∷ 4 ∷ 1 ∷ 1025 ∷  -- header
+    101 ∷ 102 ∷ 103 ∷ 104 ∷  -- record 0
+    111 ∷ 112 ∷ 113 ∷ 114 ∷  -- record 1
+    121 ∷ 122 ∷ 123 ∷ 124 ∷  -- record 2
+    131 ∷ 132 ∷ 133 ∷ 134 ∷  -- record 3
+    0 ∷ 201 ∷ 202 ∷ 203 ∷ 204 ∷ 205 ∷ 206 ∷ 207 ∷ 208 ∷ 209 ∷ 210 ∷ 211 ∷ 212 ∷ 213 ∷ 214 ∷ 215 ∷ 216 ∷ 217 ∷ 218 ∷ 219 ∷ 220 ∷ 221 ∷  -- slot 0
+    0 ∷ 301 ∷ 302 ∷ 303 ∷ 304 ∷ 305 ∷ 306 ∷ 307 ∷ 308 ∷ 309 ∷ 310 ∷ 311 ∷ 312 ∷ 313 ∷ 314 ∷ 315 ∷ 316 ∷ 317 ∷ 318 ∷ 319 ∷ 320 ∷ 321 ∷ []  -- slot 1
+
+-- copies of records 3, 0, 2 and 1, in this order, finished into slot 0, all of whose words they fill
+abbrev pub fourSealed : List ℕ
+fourSealed =
+    1 ∷ 4 ∷ 1 ∷ 1025 ∷  -- header
+    101 ∷ 102 ∷ 103 ∷ 104 ∷  -- record 0
+    111 ∷ 112 ∷ 113 ∷ 114 ∷  -- record 1
+    121 ∷ 122 ∷ 123 ∷ 124 ∷  -- record 2
+    131 ∷ 132 ∷ 133 ∷ 134 ∷  -- record 3
+    7 ∷ 4 ∷ 3 ∷ 531 ∷ 532 ∷ 533 ∷ 534 ∷ 0 ∷ 501 ∷ 502 ∷ 503 ∷ 504 ∷ 2 ∷ 521 ∷ 522 ∷ 523 ∷ 524 ∷ 1 ∷ 511 ∷ 512 ∷ 513 ∷ 514 ∷  -- slot 0
+    0 ∷ 301 ∷ 302 ∷ 303 ∷ 304 ∷ 305 ∷ 306 ∷ 307 ∷ 308 ∷ 309 ∷ 310 ∷ 311 ∷ 312 ∷ 313 ∷ 314 ∷ 315 ∷ 316 ∷ 317 ∷ 318 ∷ 319 ∷ 320 ∷ 321 ∷ []  -- slot 1
+
+-- settled
+abbrev pub fourSettled : List ℕ
+fourSettled =
+    1 ∷ 4 ∷ 1 ∷ 1025 ∷  -- header
+    501 ∷ 502 ∷ 503 ∷ 504 ∷  -- record 0
+    511 ∷ 512 ∷ 513 ∷ 514 ∷  -- record 1
+    521 ∷ 522 ∷ 523 ∷ 524 ∷  -- record 2
+    531 ∷ 532 ∷ 533 ∷ 534 ∷  -- record 3
+    7 ∷ 4 ∷ 3 ∷ 531 ∷ 532 ∷ 533 ∷ 534 ∷ 0 ∷ 501 ∷ 502 ∷ 503 ∷ 504 ∷ 2 ∷ 521 ∷ 522 ∷ 523 ∷ 524 ∷ 1 ∷ 511 ∷ 512 ∷ 513 ∷ 514 ∷  -- slot 0
+    0 ∷ 301 ∷ 302 ∷ 303 ∷ 304 ∷ 305 ∷ 306 ∷ 307 ∷ 308 ∷ 309 ∷ 310 ∷ 311 ∷ 312 ∷ 313 ∷ 314 ∷ 315 ∷ 316 ∷ 317 ∷ 318 ∷ 319 ∷ 320 ∷ 321 ∷ []  -- slot 1
+
+-- replayed: the copies are at home and the slot is emptied
+abbrev pub fourReplayed : List ℕ
+fourReplayed =
+    1 ∷ 4 ∷ 1 ∷ 1025 ∷  -- header
+    501 ∷ 502 ∷ 503 ∷ 504 ∷  -- record 0
+    511 ∷ 512 ∷ 513 ∷ 514 ∷  -- record 1
+    521 ∷ 522 ∷ 523 ∷ 524 ∷  -- record 2
+    531 ∷ 532 ∷ 533 ∷ 534 ∷  -- record 3
+    0 ∷ 4 ∷ 3 ∷ 531 ∷ 532 ∷ 533 ∷ 534 ∷ 0 ∷ 501 ∷ 502 ∷ 503 ∷ 504 ∷ 2 ∷ 521 ∷ 522 ∷ 523 ∷ 524 ∷ 1 ∷ 511 ∷ 512 ∷ 513 ∷ 514 ∷  -- slot 0
+    0 ∷ 301 ∷ 302 ∷ 303 ∷ 304 ∷ 305 ∷ 306 ∷ 307 ∷ 308 ∷ 309 ∷ 310 ∷ 311 ∷ 312 ∷ 313 ∷ 314 ∷ 315 ∷ 316 ∷ 317 ∷ 318 ∷ 319 ∷ 320 ∷ 321 ∷ []  -- slot 1
+
+-- ---- an image with N 5 and M 1, 68 words: record 4 in 20 to 23, slot 0 in 24 to 45, slot 1 in 46 to 67
+
+-- slot 0 has count 5 and four good records, all different. The word after them, slot 1's first, is below N and differs too: the count alone
+-- is at fault
+abbrev pub fiveOver : List ℕ
+fiveOver =
+    1 ∷ 5 ∷ 1 ∷ 1025 ∷  -- header
+    101 ∷ 102 ∷ 103 ∷ 104 ∷  -- record 0
+    111 ∷ 112 ∷ 113 ∷ 114 ∷  -- record 1
+    121 ∷ 122 ∷ 123 ∷ 124 ∷  -- record 2
+    131 ∷ 132 ∷ 133 ∷ 134 ∷  -- record 3
+    141 ∷ 142 ∷ 143 ∷ 144 ∷  -- record 4
+    1 ∷ 5 ∷ 4 ∷ 541 ∷ 542 ∷ 543 ∷ 544 ∷ 3 ∷ 531 ∷ 532 ∷ 533 ∷ 534 ∷ 1 ∷ 511 ∷ 512 ∷ 513 ∷ 514 ∷ 2 ∷ 521 ∷ 522 ∷ 523 ∷ 524 ∷  -- slot 0
+    0 ∷ 301 ∷ 302 ∷ 303 ∷ 304 ∷ 305 ∷ 306 ∷ 307 ∷ 308 ∷ 309 ∷ 310 ∷ 311 ∷ 312 ∷ 313 ∷ 314 ∷ 315 ∷ 316 ∷ 317 ∷ 318 ∷ 319 ∷ 320 ∷ 321 ∷ []  -- slot 1
 
 -- ---- images with N 1 and M 2, 96 words: session 0's slots are at places 0 and 1, in words 8 to 29 and 30 to 51, session 1's at places 2
 -- and 3, in words 52 to 73 and 74 to 95
@@ -245,6 +333,14 @@ twoCopies p =
           zeroCopy ∷ zeroCopy ∷ [];
     }
 
+-- four copies, of records 3, 0, 2 and 1
+abbrev pub fourCopies : List RecordCopy
+fourCopies =
+    record { rec = 3; words = 531 ∷ 532 ∷ 533 ∷ 534 ∷ [] } ∷
+    record { rec = 0; words = 501 ∷ 502 ∷ 503 ∷ 504 ∷ [] } ∷
+    record { rec = 2; words = 521 ∷ 522 ∷ 523 ∷ 524 ∷ [] } ∷
+    record { rec = 1; words = 511 ∷ 512 ∷ 513 ∷ 514 ∷ [] } ∷ []
+
 -- N 1: session 0 has a copy of record 0 in this phase; it is active and has none; it is idle
 abbrev pub oneDesk : ℕ → Phase → Desk
 oneDesk clock p = deskOf clock 1 1 (1 ∷ 0 ∷ []) (oneCopy p 0 (501 ∷ 502 ∷ 503 ∷ 504 ∷ []))
@@ -265,6 +361,17 @@ twoDesk clock p = deskOf clock 2 1 (1 ∷ 1 ∷ []) (twoCopies p)
 
 abbrev pub twoIdle : ℕ → Desk
 twoIdle clock = deskOf clock 2 1 (0 ∷ 0 ∷ []) idleSession
+
+-- N 4, with copies of records 3, 0, 2 and 1
+abbrev pub fourDesk : ℕ → Phase → Desk
+fourDesk clock p =
+    record {
+      clock = clock;
+      n = 4;
+      m = 1;
+      holders = (1 ∷ 1 ∷ 1 ∷ 1 ∷ []) ++ replicate 252 0;
+      sessions = record { phase = p; count = 4; slot = 0; copies = fourCopies } ∷ replicate 15 idleSession;
+    }
 
 -- N 1, M 2, both sessions idle
 abbrev pub pairIdle : Desk
@@ -341,6 +448,8 @@ pub record InDigits : Type 0 where
             932 ∷ 933 ∷ 934 ∷ 935 ∷ 936 ∷ 937 ∷ 938 ∷ 939 ∷ 940 ∷ 941 ∷ 942 ∷ 943 ∷ 944 ∷ 945 ∷ 946 ∷ 947 ∷ [];
       }
   pub open-again-desk : openReply oneEmpty 48 .desk ≡ oneIdle 1026
+  -- a word too many
+  pub open-too-long : openLeaves oneLong ≡ record { told = refusal 1; entries = 0; image = oneLong; trace = before }
   -- finish of one copy at clock 7, into slot 0, whose first word is 8
   pub finish-one : finishLeaves oneEmpty (oneDesk 7 (Active 5))
       ≡ record {
@@ -377,6 +486,26 @@ pub record InDigits : Type 0 where
             932 ∷ 933 ∷ 934 ∷ 935 ∷ 936 ∷ 937 ∷ 938 ∷ 939 ∷ 940 ∷ 941 ∷ 942 ∷ 943 ∷ 944 ∷ 945 ∷ 946 ∷ 947 ∷ [];
       }
   pub finish-two-desk : finishReply twoEmpty (twoDesk 7 (Active 5)) 48 0 .desk ≡ twoDesk 7 (Sealed 7)
+  -- finish of copies of records 3, 0, 2 and 1 into slot 0, whose first word is 20: the entries fill the trace
+  pub finish-four : finishLeaves fourEmpty (fourDesk 7 (Active 5))
+      ≡ record {
+        told = sealedAt 7;
+        entries = 24;
+        image = fourSealed;
+        trace =
+            21 ∷ 4 ∷  -- the count
+            22 ∷ 3 ∷  -- the first copy: the record number
+            23 ∷ 531 ∷ 24 ∷ 532 ∷ 25 ∷ 533 ∷ 26 ∷ 534 ∷  -- the record words
+            27 ∷ 0 ∷  -- the second copy: the record number
+            28 ∷ 501 ∷ 29 ∷ 502 ∷ 30 ∷ 503 ∷ 31 ∷ 504 ∷  -- the record words
+            32 ∷ 2 ∷  -- the third copy: the record number
+            33 ∷ 521 ∷ 34 ∷ 522 ∷ 35 ∷ 523 ∷ 36 ∷ 524 ∷  -- the record words
+            37 ∷ 1 ∷  -- the fourth copy: the record number
+            38 ∷ 511 ∷ 39 ∷ 512 ∷ 40 ∷ 513 ∷ 41 ∷ 514 ∷  -- the record words
+            18446744073709551615 ∷ 0 ∷  -- a fence
+            20 ∷ 7 ∷  -- the persist number
+            18446744073709551615 ∷ 0 ∷ [];  -- a fence
+      }
   -- a first write while slot 0 is occupied reserves slot 1, and finish goes there; its first word is 30
   pub write-second : writeReply oneSettled oneBegun 0 0 (521 ∷ 522 ∷ 523 ∷ 524 ∷ []) .desk ≡ secondDesk (Active 8)
   pub finish-second : finishLeaves oneSettled (secondDesk (Active 8))
@@ -412,7 +541,7 @@ pub record InDigits : Type 0 where
   -- publish with word 3 high enough stores nothing
   pub publish-under : publishLeaves oneSealed (oneDesk 7 (Sealed 7))
       ≡ record { told = endedAt 8; entries = 0; image = oneSealed; trace = before }
-  -- settle of one copy, and of two
+  -- settle of one copy, of two, and of four
   pub settle-one : settleLeaves oneSealed (oneDesk 8 (Published 8))
       ≡ record {
         told = ok;
@@ -439,6 +568,19 @@ pub record InDigits : Type 0 where
             932 ∷ 933 ∷ 934 ∷ 935 ∷ 936 ∷ 937 ∷ 938 ∷ 939 ∷ 940 ∷ 941 ∷ 942 ∷ 943 ∷ 944 ∷ 945 ∷ 946 ∷ 947 ∷ [];
       }
   pub settle-two-desk : settleReply twoSealed (twoDesk 8 (Published 8)) 48 0 .desk ≡ twoIdle 8
+  pub settle-four : settleLeaves fourSealed (fourDesk 8 (Published 8))
+      ≡ record {
+        told = ok;
+        entries = 17;
+        image = fourSettled;
+        trace =
+            16 ∷ 531 ∷ 17 ∷ 532 ∷ 18 ∷ 533 ∷ 19 ∷ 534 ∷  -- record 3
+            4 ∷ 501 ∷ 5 ∷ 502 ∷ 6 ∷ 503 ∷ 7 ∷ 504 ∷  -- record 0
+            12 ∷ 521 ∷ 13 ∷ 522 ∷ 14 ∷ 523 ∷ 15 ∷ 524 ∷  -- record 2
+            8 ∷ 511 ∷ 9 ∷ 512 ∷ 10 ∷ 513 ∷ 11 ∷ 514 ∷  -- record 1
+            18446744073709551615 ∷ 0 ∷  -- a fence
+            934 ∷ 935 ∷ 936 ∷ 937 ∷ 938 ∷ 939 ∷ 940 ∷ 941 ∷ 942 ∷ 943 ∷ 944 ∷ 945 ∷ 946 ∷ 947 ∷ [];
+      }
   -- reclaim of the settled slot 0
   pub reclaim-one : reclaimLeaves oneSettled (oneIdle 8) 0
       ≡ record {
@@ -497,8 +639,28 @@ pub record InDigits : Type 0 where
             932 ∷ 933 ∷ 934 ∷ 935 ∷ 936 ∷ 937 ∷ 938 ∷ 939 ∷ 940 ∷ 941 ∷ 942 ∷ 943 ∷ 944 ∷ 945 ∷ 946 ∷ 947 ∷ [];
       }
   pub recover-clean : recoverLeaves twoClean ≡ record { told = clean; entries = 0; image = twoClean; trace = before }
-  -- equal numbers: refused with a record in common; with none, the lower place comes first
+  -- four copies go home in the order of their places, as in settle
+  pub recover-four : recoverLeaves fourSealed
+      ≡ record {
+        told = replayed 7;
+        entries = 19;
+        image = fourReplayed;
+        trace =
+            16 ∷ 531 ∷ 17 ∷ 532 ∷ 18 ∷ 533 ∷ 19 ∷ 534 ∷  -- record 3
+            4 ∷ 501 ∷ 5 ∷ 502 ∷ 6 ∷ 503 ∷ 7 ∷ 504 ∷  -- record 0
+            12 ∷ 521 ∷ 13 ∷ 522 ∷ 14 ∷ 523 ∷ 15 ∷ 524 ∷  -- record 2
+            8 ∷ 511 ∷ 9 ∷ 512 ∷ 10 ∷ 513 ∷ 11 ∷ 514 ∷  -- record 1
+            18446744073709551615 ∷ 0 ∷  -- a fence
+            20 ∷ 0 ∷  -- the persist number
+            18446744073709551615 ∷ 0 ∷  -- a fence
+            938 ∷ 939 ∷ 940 ∷ 941 ∷ 942 ∷ 943 ∷ 944 ∷ 945 ∷ 946 ∷ 947 ∷ [];
+      }
+  -- an occupied slot with record N, and one whose only fault is count 5: refused with 12 and the place
+  pub recover-at-n : recoverLeaves oneAtN ≡ record { told = refused 12 0; entries = 0; image = oneAtN; trace = before }
+  pub recover-count-five : recoverLeaves fiveOver ≡ record { told = refused 12 0; entries = 0; image = fiveOver; trace = before }
+  -- equal numbers: refused with a record in common, wherever the logs have it; with none, the lower place comes first
   pub recover-tied : recoverLeaves twoTied ≡ record { told = refusal 13; entries = 0; image = twoTied; trace = before }
+  pub recover-tied-across : recoverLeaves twoAcross ≡ record { told = refusal 13; entries = 0; image = twoAcross; trace = before }
   pub recover-even : recoverLeaves twoEven
       ≡ record {
         told = replayed 4;

@@ -15,7 +15,7 @@ use Rattle.steps.specs.Apply.{appliedOf, appliedEntries}
 use Rattle.steps.specs.Cut.{overlaid, replayed, arriving, cutBack}
 use Rattle.lines.specs.Put.{Put}
 use Rattle.lines.specs.Result.{stepLine}
-use Rattle.codec.specs.Steps.{noWords}
+use Rattle.codec.specs.Steps.{stepOf, noWords}
 use Rattle.steps.specs.declared.applying.Applied.{Applied}
 use Rattle.lines.specs.declared.outcome.Outcome.{Outcome}
 use Rattle.codec.specs.declared.step.Step.{Step}
@@ -23,7 +23,7 @@ use Rattle.codec.specs.declared.step.Step.the-variants.{Lay, Begin, Read, Write
 use Rattle.steps.proofs.ApplyLaws.{applied-counted}
 use Rattle.steps.proofs.CutLaws.{overlaid-same, cut-made}
 use Rattle.turns.specs.declared.state.State.{State}
-use Rattle.turns.specs.Make.{imageSize, AllFit, laying, memoryOf, storesB, CutWaits, isCutB, shownOf, notedOf, PutsLine, toldOf}
+use Rattle.turns.specs.Make.{imageSize, AllFit, laying, memoryOf, storesB, CutWaits, CutKinds, isCutB, shownOf, notedOf, PutsLine, toldOf}
 use Rattle.turns.specs.State.{putOf, lostOf}
 
 length-made : (es : List Entry) (img : List ℕ) → length (made es img) ≡ length img
@@ -95,6 +95,10 @@ cut-waits img d len (Settle s) e = cc
 cut-waits img d len (Reclaim s) e = cc
 cut-waits img d len (Abandon s) e = refl
 cut-waits img d len (Cut k) e = refl
+
+pub cut-kinds : CutKinds
+unfolding stepOf
+cut-kinds a b = refl
 
 -- the answer of lay on the part of the memory that is laid
 pub laid-by : (memory : List ℕ) (n m : ℕ) {size : ℕ} {a b : LayAnswer} → size ≡ imageSize (length memory) n m

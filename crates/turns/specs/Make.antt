@@ -1,7 +1,7 @@
 -- A step made on the store, and the lines that it prints (document 01, "The program").
 use Prim.Native.Nat.{ℕ, _+_, _*_, _≤_}
 use mathlib.Core.Bool.{Bool, true, false, not, _&&_, cond}
-use mathlib.Core.List.{List, [], _++_}
+use mathlib.Core.List.{List, [], _∷_, _++_}
 use mathlib.Core.Path.{_≡_}
 use lib.ListN.{length, take, drop}
 use lib.Dec.{leb, ltb, eqb}
@@ -17,6 +17,7 @@ use Rattle.steps.specs.Apply.{appliedEntries}
 use Rattle.steps.specs.Cut.{overlaid}
 use Rattle.lines.specs.Put.{Put}
 use Rattle.lines.specs.Result.{replayedLine, openLine}
+use Rattle.codec.specs.Steps.{stepOf}
 use Rattle.codec.specs.declared.step.Step.{Step}
 use Rattle.codec.specs.declared.step.Step.the-variants.{Lay, Begin, Read, Write, Finish, Publish, Settle, Reclaim, Abandon, Cut}
 use Rattle.lines.specs.declared.outcome.Outcome.{Outcome}
@@ -48,6 +49,13 @@ storesB (Cut k) = false
 -- no other kind has entries
 abbrev pub CutWaits : Type 0
 CutWaits = (img : List ℕ) (d : Desk) (len : ℕ) (step : Step) → storesB step ≡ false → appliedEntries img d len step ≡ []
+
+-- in numbers: of the kinds 0 to 9 a cut waits for 4 to 7
+abbrev pub CutKinds : Type 0
+CutKinds = (a b : ℕ) → storesB (stepOf 0 a b) ∷ storesB (stepOf 1 a b) ∷ storesB (stepOf 2 a b) ∷ storesB (stepOf 3 a b)
+    ∷ storesB (stepOf 4 a b) ∷ storesB (stepOf 5 a b) ∷ storesB (stepOf 6 a b) ∷ storesB (stepOf 7 a b)
+    ∷ storesB (stepOf 8 a b) ∷ storesB (stepOf 9 a b) ∷ []
+    ≡ false ∷ false ∷ false ∷ false ∷ true ∷ true ∷ true ∷ true ∷ false ∷ false ∷ []
 
 -- the next step of such a kind after a step 9 is cut
 abbrev pub isCutB : State → Step → Bool

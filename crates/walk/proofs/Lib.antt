@@ -1,3 +1,4 @@
 mod Turns
 mod WalkLaws
 mod OneTurnLaws
+mod Laws

@@ -2,8 +2,7 @@
 use Prim.Native.Nat.{ℕ, suc, zero, _+_, _-_, _≤_, _<_}
 use mathlib.Core.Bool.{Bool, true, false, not, _&&_, false≢true}
 use mathlib.Core.List.{List}
-use mathlib.Core.Path.{_≡_, refl, sym, ap, _∙_}
-use denote.Enum.Declared.{tagOf}
+use mathlib.Core.Path.{_≡_, refl, sym, _∙_}
 use native.Mathlib.Omega.{arith}
 use lib.Dec.{eqb, ltb}
 use lib.ListN.{length, getD, drop, length-drop}
@@ -19,11 +18,10 @@ use Rattle.codec.specs.declared.decoding.Found.{Found}
 use Rattle.codec.specs.declared.decoding.Found.the-variants.{Whole, Bad as Unknown, Short, End as Nothing}
 use Rattle.turns.specs.declared.state.State.{State}
 use Rattle.walk.specs.declared.turn.Turn.{Turn}
-use Rattle.walk.specs.declared.turn.Turn.the-variants.{Bad, Fill, Flush}
+use Rattle.walk.specs.declared.turn.Turn.the-variants.{Call, Lay as LayOut, Bad, Fill, Flush}
 use Rattle.walk.specs.declared.turn.Taken.{Taken}
-use Rattle.walk.specs.Turn.{callTurn, stepTurn, foundTurn, decodedTurn, lacksB, holdsB, asideOf, takenOf, ShortIsLast}
+use Rattle.walk.specs.Turn.{callTurn, stepTurn, foundTurn, decodedTurn, lacksB, holdsB, asideOf, takenOf}
 use Rattle.walk.specs.Bounds.{Within, Starved, Comes}
-use Rattle.walk.proofs.turn.Turn.{the-type}
 use Rattle.turns.specs.Bounds.{Follows}
 
 -- a buffer's length, after it was lent
@@ -68,26 +66,28 @@ pub aside-comes : {s : State} {turn : Turn} {r : Taken} → s .at ≤ s .have �
 aside-comes l h e =
     rw e (record { from = l; held = refl; written = refl; sized = refl; numbered = omega arith; starved = h })
 
+call-is : (P : Turn → Type 0) → P Bad → ((step : Step) → P (Call step)) → (step : Step) (laid : Bool) → P (callTurn step laid)
+call-is P b c step true = c step
+call-is P b c step false = b
+
+-- the turn of a step is "bad", a lay or a call
+pub step-turn-is : (P : Turn → Type 0) → P Bad → ((n m : ℕ) → P (LayOut n m)) → ((step : Step) → P (Call step)) → (step : Step) (laid : Bool)
+    → P (stepTurn step laid)
+step-turn-is P b l c (Lay n m) true = b
+step-turn-is P b l c (Lay n m) false = l n m
+step-turn-is P b l c (Begin s) laid = call-is P b c (Begin s) laid
+step-turn-is P b l c (Read s r) laid = call-is P b c (Read s r) laid
+step-turn-is P b l c (Write s r) laid = call-is P b c (Write s r) laid
+step-turn-is P b l c (Finish s) laid = call-is P b c (Finish s) laid
+step-turn-is P b l c (Publish s) laid = call-is P b c (Publish s) laid
+step-turn-is P b l c (Settle s) laid = call-is P b c (Settle s) laid
+step-turn-is P b l c (Reclaim s) laid = call-is P b c (Reclaim s) laid
+step-turn-is P b l c (Abandon s) laid = call-is P b c (Abandon s) laid
+step-turn-is P b l c (Cut k) laid = call-is P b c (Cut k) laid
+
 -- a step that was found is no turn that reads
-call-starved : (step : Step) (laid : Bool) (held : ℕ) → Starved (callTurn step laid) held
-call-starved step true held = tt
-call-starved step false held = tt
-
-step-starved : (step : Step) (laid : Bool) (held : ℕ) → Starved (stepTurn step laid) held
-step-starved (Lay n m) true held = tt
-step-starved (Lay n m) false held = tt
-step-starved (Begin s) laid held = call-starved (Begin s) laid held
-step-starved (Read s r) laid held = call-starved (Read s r) laid held
-step-starved (Write s r) laid held = call-starved (Write s r) laid held
-step-starved (Finish s) laid held = call-starved (Finish s) laid held
-step-starved (Publish s) laid held = call-starved (Publish s) laid held
-step-starved (Settle s) laid held = call-starved (Settle s) laid held
-step-starved (Reclaim s) laid held = call-starved (Reclaim s) laid held
-step-starved (Abandon s) laid held = call-starved (Abandon s) laid held
-step-starved (Cut k) laid held = call-starved (Cut k) laid held
-
-found-starved : (found : Found) (laid : Bool) (held : ℕ) → Starved (foundTurn found laid) held
-found-starved (Whole step) laid held = step-starved step laid held
+pub found-starved : (found : Found) (laid : Bool) (held : ℕ) → Starved (foundTurn found laid) held
+found-starved (Whole step) laid held = step-turn-is (λ t. Starved t held) tt (λ n m. tt) (λ s. tt) step laid
 found-starved Unknown laid held = tt
 found-starved Short laid held = tt
 found-starved Nothing laid held = tt
@@ -147,16 +147,3 @@ module _ (input : List ℕ) (s : State) {d : Decoded} {lacking : Bool} (e : d �
   fill-starved h t =
       let few = lacks-few (heldOf input (s .at) (s .have)) (rw e at (sym l ∙ first-true lacking (not (s .ended)) t)) in
       omega (arith, few, length-held input (s .at) (s .have) h)
-
--- a short step that is taken is the input's last: else a turn that writes or reads would come
-pub short-is-last : ShortIsLast
-short-is-last d s e b =
-    by-test (holdsB s)
-    (λ t. absurd (flush-bad (rw (e, t) at b)))
-    (λ f. by-test (s .ended) (λ t. t) (λ g. absurd (fill-bad (rw (e, f, g) at b))))
-  where
-    flush-bad : Flush ≡ Bad → ⊥
-    flush-bad q = let w : _≡_ {A = ℕ} 7 5 = ap (tagOf the-type) q in omega arith
-
-    fill-bad : Fill ≡ Bad → ⊥
-    fill-bad q = let w : _≡_ {A = ℕ} 2 5 = ap (tagOf the-type) q in omega arith

@@ -1,7 +1,6 @@
 -- What the next turn of a walk does (document 01, "The program"). Assumes nothing.
 use Prim.Native.Nat.{ℕ}
 use mathlib.Core.List.{List}
-use mathlib.Core.Path.{_≡_}
 use mathlib.Core.Bool.{Bool, true, false, not, _&&_, cond}
 use lib.Dec.{eqb}
 use Rattle.feed.specs.Feed.{heldOf}
@@ -87,7 +86,3 @@ turnOf input s =
     (cond (s .closed) (asideOf Open s)
     (cond (s .lost) (asideOf Recover s)
     (takenOf input s)))))
-
--- a step that is taken though its body is short: the input had ended
-abbrev pub ShortIsLast : Type 0
-ShortIsLast = (d : Decoded) (s : State) → d .found ≡ Short → readTurn d s .turn ≡ Bad → s .ended ≡ true
