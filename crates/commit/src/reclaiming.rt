@@ -55,7 +55,7 @@ fn older_slot(image: &[u64], n: u64, session: u64, e: Session) -> Oldest
     older(low, settled_number(image, n, session, e, 1), 1)
 }
 
-fn answers(desk: Desk, answer: ReclaimAnswer, entries: u64) -> ReclaimReply
+fn gives(desk: Desk, answer: ReclaimAnswer, entries: u64) -> ReclaimReply
     ensures { λ r. ⌜ r ≡ record { answer = answer; entries = entries; desk = desk } ⌝ }
 {
     ReclaimReply {
@@ -80,20 +80,20 @@ pub fn reclaim(image: &mut [u64], desk: Desk, trace: &mut [u64], session: u64) -
     let m = desk.m;
     let fault = entry_fault(image, sound, clock, n, m, 48 <= trace.len(), session);
     if fault != 0 {
-        return answers(desk, ReclaimAnswer::Refused(fault), 0);
+        return gives(desk, ReclaimAnswer::Refused(fault), 0);
     }
     let i = session as usize;
     let e = desk.sessions[i];
     let own = older_slot(image, n, session, e);
     if own.number == 0 {
-        return answers(desk, ReclaimAnswer::None, 0);
+        return gives(desk, ReclaimAnswer::None, 0);
     }
     let oldest = journal::oldest_log(image, n, 2 * m);
     if oldest.number < own.number {
-        return answers(desk, ReclaimAnswer::Held(oldest.number), 0);
+        return gives(desk, ReclaimAnswer::Held(oldest.number), 0);
     }
     let slot = layout::slot_at(n, 2 * session + own.place) as usize;
     let at = layout::put_store(image, 0, trace, 0, slot, 0);
     layout::put_fence(trace, at);
-    answers(desk, ReclaimAnswer::Cleared(own.number), 2)
+    gives(desk, ReclaimAnswer::Cleared(own.number), 2)
 }

@@ -55,7 +55,7 @@ fn start_below(end: u64, p: Phase) -> u64
     }
 }
 
-fn answers(desk: Desk, answer: SettleAnswer, entries: u64) -> SettleReply
+fn gives(desk: Desk, answer: SettleAnswer, entries: u64) -> SettleReply
     ensures { λ r. ⌜ r ≡ record { answer = answer; entries = entries; desk = desk } ⌝ }
 {
     SettleReply {
@@ -80,13 +80,13 @@ pub fn settle(image: &mut [u64], mut desk: Desk, trace: &mut [u64], session: u64
     let m = desk.m;
     let fault = entry_fault(image, sound, clock, n, m, 48 <= trace.len(), session);
     if fault != 0 {
-        return answers(desk, SettleAnswer::Refused(fault), 0);
+        return gives(desk, SettleAnswer::Refused(fault), 0);
     }
     let i = session as usize;
     let e = desk.sessions[i];
     let p = e.phase;
     if !is_published(p) {
-        return answers(desk, SettleAnswer::Refused(6), 0);
+        return gives(desk, SettleAnswer::Refused(6), 0);
     }
     let end = end_of(p);
     let mut reader = Oldest {
@@ -101,7 +101,7 @@ pub fn settle(image: &mut [u64], mut desk: Desk, trace: &mut [u64], session: u64
         t += 1;
     }
     if reader.number != 0 {
-        return answers(desk, SettleAnswer::Wait(reader.place), 0);
+        return gives(desk, SettleAnswer::Wait(reader.place), 0);
     }
     let count = e.count;
     let copies = e.copies;
@@ -109,5 +109,5 @@ pub fn settle(image: &mut [u64], mut desk: Desk, trace: &mut [u64], session: u64
     layout::put_fence(trace, at);
     unmark(&mut desk.holders, copies, count);
     desk.sessions[i] = idle_session();
-    answers(desk, SettleAnswer::Ok, journal::settle_length(count))
+    gives(desk, SettleAnswer::Ok, journal::settle_length(count))
 }

@@ -86,7 +86,7 @@ fn extend(mut e: Session, rec: u64, words: [u64; 4], slot: u64) -> Session
     e
 }
 
-fn answers(desk: Desk, answer: WriteAnswer) -> WriteReply
+fn gives(desk: Desk, answer: WriteAnswer) -> WriteReply
     ensures { λ r. ⌜ r ≡ writeSays desk answer ⌝ }
 {
     WriteReply {
@@ -106,18 +106,18 @@ pub fn write(image: &[u64], mut desk: Desk, session: u64, rec: u64, words: [u64;
     let m = desk.m;
     let fault = record_fault(image, sound, clock, n, m, session, rec);
     if fault != 0 {
-        return answers(desk, WriteAnswer::Refused(fault));
+        return gives(desk, WriteAnswer::Refused(fault));
     }
     let i = session as usize;
     let e = desk.sessions[i];
     let p = e.phase;
     if !is_active(p) {
-        return answers(desk, WriteAnswer::Refused(6));
+        return gives(desk, WriteAnswer::Refused(6));
     }
     let own = own_place(e, rec);
     if own < 4 {
         desk.sessions[i] = overwrite(e, own, rec, words);
-        return answers(desk, WriteAnswer::Ok);
+        return gives(desk, WriteAnswer::Ok);
     }
     let k = rec as usize;
     let mark = desk.holders[k];
@@ -128,13 +128,13 @@ pub fn write(image: &[u64], mut desk: Desk, session: u64, rec: u64, words: [u64;
         let copies = e.copies;
         unmark(&mut desk.holders, copies, count);
         desk.sessions[i] = idle_session();
-        return answers(desk, WriteAnswer::Taken(mark as u64 - 1));
+        return gives(desk, WriteAnswer::Taken(mark as u64 - 1));
     }
     if blocked != 0 {
-        return answers(desk, WriteAnswer::Refused(blocked));
+        return gives(desk, WriteAnswer::Refused(blocked));
     }
     let slot = slot_for(count, free, e.slot);
     desk.holders[k] = session as u8 + 1;
     desk.sessions[i] = extend(e, rec, words, slot);
-    answers(desk, WriteAnswer::Ok)
+    gives(desk, WriteAnswer::Ok)
 }

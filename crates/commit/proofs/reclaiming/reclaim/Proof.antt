@@ -36,8 +36,8 @@ coherent-requires c κs = search needs
 entry-fault-requires : tie.Need-entry-fault-requires
 entry-fault-requires c κs = search needs
 
-answers-requires : tie.Need-answers-requires
-answers-requires c κs = search needs
+gives-requires : tie.Need-gives-requires
+gives-requires c κs = search needs
 
 same-length : tie.Need-same-length
 same-length c = search needs
@@ -46,7 +46,7 @@ returns : tie.Need-returns
 returns c =
     let a = (c .before .before .before .before .before .before .before) .args in
     let g = reclaim-refused (a .image .now) (a .t2) (length (a .trace .now)) (a .session) ((c .before .before) .entry-fault .result) (rw ((c .before .before .before .before) .coherent .ensures) at ((c .before .before) .entry-fault .ensures)) ((c .before) .if1 .taken) in
-    reclaim-tells _ _ _ _ (c .answers .ensures ∙ sym (g .replies), stored-none _ _ _ (g .lists))
+    reclaim-tells _ _ _ _ (c .gives .ensures ∙ sym (g .replies), stored-none _ _ _ (g .lists))
 
 mul-e : tie.Need-mul-e
 mul-e c = omega (arith, facts c .small)
@@ -57,8 +57,8 @@ element-copy-out-e c = facts c .small
 older-slot-requires : tie.Need-older-slot-requires
 older-slot-requires c κs = (facts (c .before .before) .coherent .n-high, facts (c .before .before) .small)
 
-answers-requires-2 : tie.Need-answers-requires-2
-answers-requires-2 c κs = search needs
+gives-requires-2 : tie.Need-gives-requires-2
+gives-requires-2 c κs = search needs
 
 same-length-2 : tie.Need-same-length-2
 same-length-2 c = search needs
@@ -67,7 +67,7 @@ returns-2 : tie.Need-returns-2
 returns-2 c =
     let a = (c .before .before .before .before .before .before .before .before .before .before .before .before) .args in
     let g = reclaim-none (a .image .now) (a .t2) (length (a .trace .now)) (a .session) (passed (c .before .before .before .before .before .before)) ((c .before .before .before) .older-slot .result) ((c .before .before .before) .older-slot .ensures) ((c .before) .if2 .taken) in
-    reclaim-tells _ _ _ _ (c .answers2 .ensures ∙ sym (g .replies), stored-none _ _ _ (g .lists))
+    reclaim-tells _ _ _ _ (c .gives2 .ensures ∙ sym (g .replies), stored-none _ _ _ (g .lists))
 
 mul-oldest-log : tie.Need-mul-oldest-log
 mul-oldest-log c = omega (arith, facts (c .before .before .before .before .before .before) .coherent .m-high)
@@ -75,8 +75,8 @@ mul-oldest-log c = omega (arith, facts (c .before .before .before .before .befor
 oldest-log-requires : tie.Need-oldest-log-requires
 oldest-log-requires c κs = (facts (c .before .before .before .before .before .before) .coherent .n-high, omega (arith, facts (c .before .before .before .before .before .before) .coherent .m-high))
 
-answers-requires-3 : tie.Need-answers-requires-3
-answers-requires-3 c κs = search needs
+gives-requires-3 : tie.Need-gives-requires-3
+gives-requires-3 c κs = search needs
 
 same-length-3 : tie.Need-same-length-3
 same-length-3 c = search needs
@@ -85,7 +85,7 @@ returns-3 : tie.Need-returns-3
 returns-3 c =
     let a = (c .before .before .before .before .before .before .before .before .before .before .before .before .before .before .before .before .before) .args in
     let g = reclaim-held (a .image .now) (a .t2) (length (a .trace .now)) (a .session) (passed (c .before .before .before .before .before .before .before .before .before .before .before)) ((c .before .before .before .before .before .before .before .before) .older-slot .result) ((c .before .before .before .before .before .before .before .before) .older-slot .ensures) ((c .before .before .before .before .before .before) .if2 .left) ((c .before .before .before .before) .oldest-log .result) ((c .before .before .before .before) .oldest-log .ensures) ((c .before) .if3 .taken) in
-    reclaim-tells _ _ _ _ (c .answers3 .ensures ∙ sym (g .replies), stored-none _ _ _ (g .lists))
+    reclaim-tells _ _ _ _ (c .gives3 .ensures ∙ sym (g .replies), stored-none _ _ _ (g .lists))
 
 mul-slot-at : tie.Need-mul-slot-at
 mul-slot-at c = omega (arith, facts (c .before .before .before .before .before .before .before .before .before .before) .small)
@@ -102,8 +102,8 @@ put-store-requires c κs = let f = facts (c .before .before .before .before .bef
 put-fence-requires : tie.Need-put-fence-requires
 put-fence-requires c κs = omega (arith, room (c .before .before .before .before .before .before .before .before .before .before .before .before .before .before .before .before .before .before .before .before), (c .before .before .before .before .before) .put-store .ensures .next)
 
-answers-requires-4 : tie.Need-answers-requires-4
-answers-requires-4 c κs = search needs
+gives-requires-4 : tie.Need-gives-requires-4
+gives-requires-4 c κs = search needs
 
 same-length-4 : tie.Need-same-length-4
 same-length-4 c = search needs
@@ -115,7 +115,7 @@ returns-4 : tie.Need-returns-4
 returns-4 c =
     let a = (c .before .before .before .before .before .before .before .before .before .before .before .before .before .before .before .before .before .before .before .before .before .before .before .before .before .before .before .before .before .before) .args in
     let g = reclaim-clears (a .image .now) (a .t2) (length (a .trace .now)) (a .session) (passed (c .before .before .before .before .before .before .before .before .before .before .before .before .before .before .before .before .before .before .before .before .before .before .before .before)) ((c .before .before .before .before .before .before .before .before .before .before .before .before .before .before .before .before .before .before .before .before .before) .older-slot .result) ((c .before .before .before .before .before .before .before .before .before .before .before .before .before .before .before .before .before .before .before .before .before) .older-slot .ensures) ((c .before .before .before .before .before .before .before .before .before .before .before .before .before .before .before .before .before .before .before) .if2 .left) ((c .before .before .before .before .before .before .before .before .before .before .before .before .before .before .before .before .before) .oldest-log .result) ((c .before .before .before .before .before .before .before .before .before .before .before .before .before .before .before .before .before) .oldest-log .ensures) ((c .before .before .before .before .before .before .before .before .before .before .before .before .before .before) .if3 .left) in reclaim-tells _ _ _ _ (
-      c .answers4 .ensures ∙ sym (g .replies),
+      c .gives4 .ensures ∙ sym (g .replies),
       stored-run _ (g .lists) (rw ((c .before .before .before .before .before .before .before .before .before .before .before .before) .slot-at .ensures) at (and-then ((c .before .before .before .before .before .before .before .before .before) .put-store .ensures) (fenced ((c .before .before .before) .put-fence .ensures)))) (omega (arith, room (c .before .before .before .before .before .before .before .before .before .before .before .before .before .before .before .before .before .before .before .before .before .before .before .before))),
     )
 
@@ -125,18 +125,18 @@ reclaim-spec =
     (tie.spec
     coherent-requires
     entry-fault-requires
-    answers-requires
+    gives-requires
     same-length
     returns
     mul-e
     element-copy-out-e
     older-slot-requires
-    answers-requires-2
+    gives-requires-2
     same-length-2
     returns-2
     mul-oldest-log
     oldest-log-requires
-    answers-requires-3
+    gives-requires-3
     same-length-3
     returns-3
     mul-slot-at
@@ -144,7 +144,7 @@ reclaim-spec =
     slot-at-requires
     put-store-requires
     put-fence-requires
-    answers-requires-4
+    gives-requires-4
     same-length-4
     same-length-5
     returns-4)

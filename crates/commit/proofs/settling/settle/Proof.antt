@@ -47,8 +47,8 @@ coherent-requires c κs = search needs
 entry-fault-requires : tie.Need-entry-fault-requires Inv-loop μ-loop
 entry-fault-requires c κs = search needs
 
-answers-requires : tie.Need-answers-requires Inv-loop μ-loop
-answers-requires c κs = search needs
+gives-requires : tie.Need-gives-requires Inv-loop μ-loop
+gives-requires c κs = search needs
 
 same-length : tie.Need-same-length Inv-loop μ-loop
 same-length c = search needs
@@ -57,7 +57,7 @@ returns : tie.Need-returns Inv-loop μ-loop
 returns c =
     let a = (c .before .before .before .before .before .before .before) .args in
     let g = settle-refused (a .image .now) (a .t2) (length (a .trace .now)) (a .session) ((c .before .before) .entry-fault .result) (rw ((c .before .before .before .before) .coherent .ensures) at ((c .before .before) .entry-fault .ensures)) ((c .before) .if1 .taken) in
-    settle-tells _ _ _ _ (c .answers .ensures ∙ sym (g .replies), stored-none _ _ _ (g .lists))
+    settle-tells _ _ _ _ (c .gives .ensures ∙ sym (g .replies), stored-none _ _ _ (g .lists))
 
 mul-e : tie.Need-mul-e Inv-loop μ-loop
 mul-e c = omega (arith, facts c .small)
@@ -68,8 +68,8 @@ element-copy-out-e c = facts c .small
 is-published-requires : tie.Need-is-published-requires Inv-loop μ-loop
 is-published-requires c κs = search needs
 
-answers-requires-2 : tie.Need-answers-requires-2 Inv-loop μ-loop
-answers-requires-2 c κs = search needs
+gives-requires-2 : tie.Need-gives-requires-2 Inv-loop μ-loop
+gives-requires-2 c κs = search needs
 
 same-length-2 : tie.Need-same-length-2 Inv-loop μ-loop
 same-length-2 c = search needs
@@ -78,7 +78,7 @@ returns-2 : tie.Need-returns-2 Inv-loop μ-loop
 returns-2 c =
     let a = (c .before .before .before .before .before .before .before .before .before .before) .args in
     let g = settle-unpublished (a .image .now) (a .t2) (length (a .trace .now)) (a .session) (passed (c .before .before .before .before)) (sym ((c .before .before) .is-published .ensures) ∙ not-true _ ((c .before) .if2 .taken)) in
-    settle-tells _ _ _ _ (c .answers2 .ensures ∙ sym (g .replies), stored-none _ _ _ (g .lists))
+    settle-tells _ _ _ _ (c .gives2 .ensures ∙ sym (g .replies), stored-none _ _ _ (g .lists))
 
 end-of-requires : tie.Need-end-of-requires Inv-loop μ-loop
 end-of-requires c κs = search needs
@@ -109,8 +109,8 @@ loop-again : tie.Need-loop-again Inv-loop μ-loop
 unfolding oldestOf
 loop-again c = (search needs, c .older .ensures ∙ rw ((c .before) .start-below .ensures, (c .before .before .before .before .before) .end-of .ensures, (c .before .before .before .before) .loop .inv .1, add-one))
 
-answers-requires-3 : tie.Need-answers-requires-3 Inv-loop μ-loop
-answers-requires-3 c κs = search needs
+gives-requires-3 : tie.Need-gives-requires-3 Inv-loop μ-loop
+gives-requires-3 c κs = search needs
 
 same-length-3 : tie.Need-same-length-3 Inv-loop μ-loop
 same-length-3 c = search needs
@@ -121,7 +121,7 @@ returns-3 c =
     let a = (c .before .before .before .before .before .before .before .before .before .before .before .before .before .before .before) .args in
     let e : (c .before .before .before .before) .loop .t ≡ 16 = omega (arith, (c .before .before .before .before) .loop .inv .0, (c .before .before .before) .loop-test .left) in
     let g = settle-waits (a .image .now) (a .t2) (length (a .trace .now)) (a .session) (passed (c .before .before .before .before .before .before .before .before .before)) (sym ((c .before .before .before .before .before .before .before) .is-published .ensures) ∙ not-false _ ((c .before .before .before .before .before .before) .if2 .left)) ((c .before .before .before .before) .loop .reader) (rw e at ((c .before .before .before .before) .loop .inv .1)) ((c .before) .if3 .taken) in
-    settle-tells _ _ _ _ (c .answers3 .ensures ∙ sym (g .replies), stored-none _ _ _ (g .lists))
+    settle-tells _ _ _ _ (c .gives3 .ensures ∙ sym (g .replies), stored-none _ _ _ (g .lists))
 
 put-homes-requires : tie.Need-put-homes-requires Inv-loop μ-loop
 put-homes-requires c κs = ((few (c .before .before .before .before .before .before .before .before .before .before .before), omega (arith, few (c .before .before .before .before .before .before .before .before .before .before .before), room (c .before .before .before .before .before .before .before .before .before .before .before))), homes-inside (facts (c .before .before .before .before .before .before .before .before .before .before .before)))
@@ -144,8 +144,8 @@ element-set-from-desk c = facts (c .before .before .before .before .before .befo
 settle-length-requires : tie.Need-settle-length-requires Inv-loop μ-loop
 settle-length-requires c κs = search needs
 
-answers-requires-4 : tie.Need-answers-requires-4 Inv-loop μ-loop
-answers-requires-4 c κs = search needs
+gives-requires-4 : tie.Need-gives-requires-4 Inv-loop μ-loop
+gives-requires-4 c κs = search needs
 
 same-length-4 : tie.Need-same-length-4 Inv-loop μ-loop
 same-length-4 c = search needs
@@ -160,7 +160,7 @@ returns-4 c =
     let a = (c .before .before .before .before .before .before .before .before .before .before .before .before .before .before .before .before .before .before .before .before .before .before .before .before .before .before .before .before .before .before .before) .args in
     let g = settle-stores (a .image .now) (a .t2) (length (a .trace .now)) (a .session) (passed (c .before .before .before .before .before .before .before .before .before .before .before .before .before .before .before .before .before .before .before .before .before .before .before .before .before)) (sym ((c .before .before .before .before .before .before .before .before .before .before .before .before .before .before .before .before .before .before .before .before .before .before .before) .is-published .ensures) ∙ not-false _ ((c .before .before .before .before .before .before .before .before .before .before .before .before .before .before .before .before .before .before .before .before .before .before) .if2 .left)) ((c .before .before .before .before .before .before .before .before .before .before .before .before .before .before .before .before .before .before .before .before) .loop .reader) (rw e at ((c .before .before .before .before .before .before .before .before .before .before .before .before .before .before .before .before .before .before .before .before) .loop .inv .1)) ((c .before .before .before .before .before .before .before .before .before .before .before .before .before .before .before .before .before) .if3 .left) in
     settle-tells _ _ _ _ (
-      c .answers4 .ensures ∙ rw ((c .before) .settle-length .ensures, (c .before .before) .idle-session .ensures, (c .before .before .before) .unmark .ensures) (sym (g .replies)),
+      c .gives4 .ensures ∙ rw ((c .before) .settle-length .ensures, (c .before .before) .idle-session .ensures, (c .before .before .before) .unmark .ensures) (sym (g .replies)),
       stored-run _ (g .lists) (and-then ((c .before .before .before .before .before .before .before .before .before .before .before .before .before) .put-homes .ensures .0) (fenced ((c .before .before .before .before .before .before .before) .put-fence .ensures))) (omega (arith, settle-length (a .t2) (a .session), few (c .before .before .before .before .before .before .before .before .before .before .before .before .before .before .before .before .before .before .before .before .before .before .before .before .before), room (c .before .before .before .before .before .before .before .before .before .before .before .before .before .before .before .before .before .before .before .before .before .before .before .before .before))),
     )
 
@@ -172,13 +172,13 @@ settle-spec =
     μ-loop
     coherent-requires
     entry-fault-requires
-    answers-requires
+    gives-requires
     same-length
     returns
     mul-e
     element-copy-out-e
     is-published-requires
-    answers-requires-2
+    gives-requires-2
     same-length-2
     returns-2
     end-of-requires
@@ -190,7 +190,7 @@ settle-spec =
     add-t
     loop-less
     loop-again
-    answers-requires-3
+    gives-requires-3
     same-length-3
     returns-3
     put-homes-requires
@@ -200,7 +200,7 @@ settle-spec =
     mul-t25
     element-set-from-desk
     settle-length-requires
-    answers-requires-4
+    gives-requires-4
     same-length-4
     same-length-5
     returns-4)

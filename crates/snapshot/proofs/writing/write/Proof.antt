@@ -24,11 +24,11 @@ coherent-requires c κs = search needs
 record-fault-requires : tie.Need-record-fault-requires
 record-fault-requires c κs = search needs
 
-answers-requires : tie.Need-answers-requires
-answers-requires c κs = search needs
+gives-requires : tie.Need-gives-requires
+gives-requires c κs = search needs
 
 returns : tie.Need-returns
-returns c = write-tells _ _ _ _ _ (c .answers .ensures ∙ sym (write-refused _ _ _ _ _ ((c .before .before) .record-fault .result) (rw ((c .before .before .before) .coherent .ensures) at ((c .before .before) .record-fault .ensures)) ((c .before) .if1 .taken)))
+returns c = write-tells _ _ _ _ _ (c .gives .ensures ∙ sym (write-refused _ _ _ _ _ ((c .before .before) .record-fault .result) (rw ((c .before .before .before) .coherent .ensures) at ((c .before .before) .record-fault .ensures)) ((c .before) .if1 .taken)))
 
 mul-e : tie.Need-mul-e
 mul-e c = omega (arith, facts c .session .small)
@@ -39,11 +39,11 @@ element-copy-out-e c = facts c .session .small
 is-active-requires : tie.Need-is-active-requires
 is-active-requires c κs = search needs
 
-answers-requires-2 : tie.Need-answers-requires-2
-answers-requires-2 c κs = search needs
+gives-requires-2 : tie.Need-gives-requires-2
+gives-requires-2 c κs = search needs
 
 returns-2 : tie.Need-returns-2
-returns-2 c = write-tells _ _ _ _ _ (c .answers2 .ensures ∙ sym (write-inactive _ _ _ _ _ (passed (c .before .before .before .before)) (sym ((c .before .before) .is-active .ensures) ∙ not-true _ ((c .before) .if2 .taken))))
+returns-2 c = write-tells _ _ _ _ _ (c .gives2 .ensures ∙ sym (write-inactive _ _ _ _ _ (passed (c .before .before .before .before)) (sym ((c .before .before) .is-active .ensures) ∙ not-true _ ((c .before) .if2 .taken))))
 
 own-place-requires : tie.Need-own-place-requires
 own-place-requires c κs = search needs
@@ -57,13 +57,13 @@ mul-t35 c = omega (arith, facts (c .before .before .before .before .before .befo
 element-set-from-desk : tie.Need-element-set-from-desk
 element-set-from-desk c = facts (c .before .before .before .before .before .before) .session .small
 
-answers-requires-3 : tie.Need-answers-requires-3
-answers-requires-3 c κs = search needs
+gives-requires-3 : tie.Need-gives-requires-3
+gives-requires-3 c κs = search needs
 
 returns-3 : tie.Need-returns-3
 returns-3 c =
     write-tells _ _ _ _ _
-    (c .answers3 .ensures
+    (c .gives3 .ensures
     ∙ rw ((c .before) .overwrite .ensures) (sym (write-own _ _ _ _ _ (passed (c .before .before .before .before .before .before .before)) (sym ((c .before .before .before .before .before) .is-active .ensures) ∙ not-false _ ((c .before .before .before .before) .if2 .left)) (rw ((c .before .before .before) .own-place .ensures) at ((c .before .before) .if3 .taken)))))
 
 element-copy-out-mark : tie.Need-element-copy-out-mark
@@ -93,23 +93,23 @@ cast-t50 c = omega (arith, facts (c .before .before .before .before .before .bef
 sub-t51 : tie.Need-sub-t51
 sub-t51 c = let n = taken-marked _ _ _ (sym ((c .before .before .before .before .before) .copy-fault .ensures) ∙ (c .before .before .before .before) .if4 .taken) in omega (arith, n)
 
-answers-requires-4 : tie.Need-answers-requires-4
-answers-requires-4 c κs = search needs
+gives-requires-4 : tie.Need-gives-requires-4
+gives-requires-4 c κs = search needs
 
 returns-4 : tie.Need-returns-4
 returns-4 c =
     write-tells _ _ _ _ _
-    (c .answers4 .ensures
+    (c .gives4 .ensures
     ∙ rw ((c .before) .idle-session .ensures, (c .before .before) .unmark .ensures)
     (sym (write-taken _ _ _ _ _ (passed (c .before .before .before .before .before .before .before .before .before .before .before .before .before .before)) (sym ((c .before .before .before .before .before .before .before .before .before .before .before .before) .is-active .ensures) ∙ not-false _ ((c .before .before .before .before .before .before .before .before .before .before .before) .if2 .left)) (rw ((c .before .before .before .before .before .before .before .before .before .before) .own-place .ensures) at ((c .before .before .before .before .before .before .before .before .before) .if3 .left)) ((c .before .before .before .before .before .before) .copy-fault .result) (rw ((c .before .before .before .before .before .before .before) .empty-slot .ensures) at ((c .before .before .before .before .before .before) .copy-fault .ensures)) ((c .before .before .before .before .before) .if4 .taken))))
 
-answers-requires-5 : tie.Need-answers-requires-5
-answers-requires-5 c κs = search needs
+gives-requires-5 : tie.Need-gives-requires-5
+gives-requires-5 c κs = search needs
 
 returns-5 : tie.Need-returns-5
 returns-5 c =
     write-tells _ _ _ _ _
-    (c .answers5 .ensures
+    (c .gives5 .ensures
     ∙ sym (write-full _ _ _ _ _ (passed (c .before .before .before .before .before .before .before .before .before .before .before)) (sym ((c .before .before .before .before .before .before .before .before .before) .is-active .ensures) ∙ not-false _ ((c .before .before .before .before .before .before .before .before) .if2 .left)) (rw ((c .before .before .before .before .before .before .before) .own-place .ensures) at ((c .before .before .before .before .before .before) .if3 .left)) ((c .before .before .before) .copy-fault .result) (rw ((c .before .before .before .before) .empty-slot .ensures) at ((c .before .before .before) .copy-fault .ensures)) ((c .before .before) .if4 .left) ((c .before) .if5 .taken)))
 
 slot-for-requires : tie.Need-slot-for-requires
@@ -133,13 +133,13 @@ mul-t27 c = omega (arith, facts (c .before .before .before .before .before .befo
 element-set-from-desk-3 : tie.Need-element-set-from-desk-3
 element-set-from-desk-3 c = facts (c .before .before .before .before .before .before .before .before .before .before .before .before) .session .small
 
-answers-requires-6 : tie.Need-answers-requires-6
-answers-requires-6 c κs = search needs
+gives-requires-6 : tie.Need-gives-requires-6
+gives-requires-6 c κs = search needs
 
 returns-6 : tie.Need-returns-6
 returns-6 c =
     write-tells _ _ _ _ _
-    (c .answers6 .ensures
+    (c .gives6 .ensures
     ∙ rw ((c .before) .extend .ensures, (c .before .before) .slot-for .ensures, (c .before .before .before .before .before .before) .empty-slot .ensures)
     (sym (write-copied _ _ _ _ _ (passed (c .before .before .before .before .before .before .before .before .before .before .before .before .before)) (sym ((c .before .before .before .before .before .before .before .before .before .before .before) .is-active .ensures) ∙ not-false _ ((c .before .before .before .before .before .before .before .before .before .before) .if2 .left)) (rw ((c .before .before .before .before .before .before .before .before .before) .own-place .ensures) at ((c .before .before .before .before .before .before .before .before) .if3 .left)) ((c .before .before .before .before .before) .copy-fault .result) (rw ((c .before .before .before .before .before .before) .empty-slot .ensures) at ((c .before .before .before .before .before) .copy-fault .ensures)) ((c .before .before .before) .if5 .left))))
 
@@ -149,18 +149,18 @@ write-spec =
     (tie.spec
     coherent-requires
     record-fault-requires
-    answers-requires
+    gives-requires
     returns
     mul-e
     element-copy-out-e
     is-active-requires
-    answers-requires-2
+    gives-requires-2
     returns-2
     own-place-requires
     overwrite-requires
     mul-t35
     element-set-from-desk
-    answers-requires-3
+    gives-requires-3
     returns-3
     element-copy-out-mark
     empty-slot-requires
@@ -171,9 +171,9 @@ write-spec =
     element-set-from-desk-2
     cast-t50
     sub-t51
-    answers-requires-4
+    gives-requires-4
     returns-4
-    answers-requires-5
+    gives-requires-5
     returns-5
     slot-for-requires
     cast-desk
@@ -182,5 +182,5 @@ write-spec =
     extend-requires
     mul-t27
     element-set-from-desk-3
-    answers-requires-6
+    gives-requires-6
     returns-6)
