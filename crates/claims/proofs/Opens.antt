@@ -2,7 +2,7 @@
 use Prim.Native.Nat.{ℕ, zero, suc, _+_, _*_, _≤_, _<_}
 use mathlib.Core.Bool.{true, false}
 use mathlib.Core.Path.{_≡_, refl, ap, _∙_}
-use mathlib.Core.List.{List, _∷_}
+use mathlib.Core.List.{List}
 use native.Mathlib.Omega.{arith}
 use lib.Dec.{leb, ltb}
 use lib.ListN.{length, getD, replicate, length-replicate, getD-replicate}
@@ -21,7 +21,7 @@ use Rattle.recovery.specs.Open.{openFault, opened, openReply}
 use Rattle.recovery.specs.Told.{openTold}
 use Rattle.recovery.specs.declared.opening.OpenReply.{OpenReply}
 use Rattle.claims.specs.Rules.{storeRules}
-use Rattle.claims.specs.Recovering.{numberAt, AllEmpty}
+use Rattle.claims.specs.Recovering.{AllEmpty}
 use Rattle.claims.proofs.Opening.{facts, opens-clean}
 use Rattle.claims.specs.Opens.{Fits, Opened, blank, Opens}
 

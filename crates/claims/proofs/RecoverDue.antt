@@ -8,7 +8,6 @@ use lib.Dec.{ltb}
 use lib.ListN.{length}
 use borrow.Author.Tests.{eq-eqb, ne-eqb, ltb-true, ltb-false}
 use Rattle.layout.specs.Told.{clean, replayed}
-use Rattle.layout.specs.declared.oldest.Oldest.{Oldest}
 use Rattle.layout.proofs.ChecksLaws.{answered-zero}
 use Rattle.layout.proofs.Least.{Least, oldest-is}
 use Rattle.layout.proofs.Says.{by-test}

@@ -8,7 +8,7 @@ use Rattle.layout.specs.Crash.{crashed}
 use Rattle.layout.specs.Entries.{Entry, store, fence, made}
 use Rattle.layout.specs.Image.{ceilingOf, shapedB}
 use Rattle.layout.specs.Lay.{emptyImage, laidImage}
-use Rattle.layout.specs.Told.{Told, refusal, ok}
+use Rattle.layout.specs.Told.{Told, refusal}
 use Rattle.desk.specs.Coherent.{limit}
 use Rattle.desk.specs.Desk.{idleSession}
 use Rattle.desk.specs.Publish.{publishEntries, publishReply}
@@ -25,7 +25,6 @@ use Rattle.commit.specs.Finish.{finishEntries}
 use Rattle.commit.specs.Settle.{settleEntries}
 use Rattle.commit.specs.Reclaim.{reclaimEntries}
 use Rattle.claims.specs.Edges.{withSlot, oneCopy, deskOf, oneMark}
-use Rattle.claims.specs.Rules.{storeRules}
 
 -- ---- on any image and desk
 

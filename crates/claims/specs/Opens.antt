@@ -8,7 +8,6 @@ use Rattle.layout.specs.Lay.{layAnswer, laidImage}
 use Rattle.layout.specs.Told.{ok, layTold}
 use Rattle.desk.specs.Desk.{sessionAt, markAt}
 use Rattle.desk.specs.declared.state.Phase.the-variants.{Idle}
-use Rattle.desk.specs.declared.state.Desk.{Desk}
 use Rattle.claims.specs.Rules.{Opening, storeRules}
 use Rattle.claims.specs.Recovering.{AllEmpty}
 

@@ -10,20 +10,18 @@ use borrow.Author.Tests.{eqb-true, eqb-false, eq-eqb}
 use Rattle.layout.proofs.Says.{by-test}
 use Rattle.feed.specs.Feed.{heldOf}
 use Rattle.codec.specs.Steps.{decodeOf}
-use Rattle.codec.specs.declared.step.Step.{Step}
 use Rattle.codec.specs.declared.decoding.Found.{Found}
 use Rattle.codec.specs.declared.decoding.Found.the-variants.{Whole, Bad as Unknown, Short, End as Nothing}
 use Rattle.codec.specs.declared.decoding.Decoded.{Decoded}
 use Rattle.turns.specs.declared.state.State.{State}
-use Rattle.walk.specs.Bounds.{Starved}
 use Rattle.walk.specs.Turn.{foundTurn, lacksB, holdsB, readTurn, takenOf, turnOf}
-use Rattle.walk.specs.Walk.{Scene, fullB, nextOf}
+use Rattle.walk.specs.Walk.{fullB}
 use Rattle.walk.specs.Laws.{TurnLaws}
 use Rattle.walk.specs.declared.turn.Turn.{Turn}
-use Rattle.walk.specs.declared.turn.Turn.the-variants.{Open, Recover, Fill, Call, Lay, Bad, End, Flush, Fail}
+use Rattle.walk.specs.declared.turn.Turn.the-variants.{Fill, Bad, End, Fail}
 use Rattle.walk.specs.declared.turn.Taken.{Taken}
 use Rattle.walk.proofs.turn.Turn.{the-type}
-use Rattle.walk.proofs.Turns.{found-starved, step-turn-is}
+use Rattle.walk.proofs.Turns.{found-starved, step-turn-is, both}
 
 -- two turns that are not the same
 differ : {a b : Turn} → a ≡ b → eqb (tagOf the-type a) (tagOf the-type b) ≡ false → ⊥
@@ -37,10 +35,6 @@ bare s e = by-test (eqb (s .put) 0) (λ t. eqb-true _ _ t) (λ f. absurd (false�
 second-fails : (a b : Bool) → a && b ≡ false → a ≡ true → b ≡ false
 second-fails true b e t = e
 second-fails false b e t = cc
-
-both : (a b : Bool) → a && b ≡ true → (a ≡ true) × (b ≡ true)
-both true b e = (refl, e)
-both false b e = absurd (false≢true e)
 
 -- the turn is that of the second, where it is not that of the first, and where the test says so
 past : (b : Bool) (x y : Taken) {turn : Turn} → cond b x y .turn ≡ turn → (x .turn ≡ turn → ⊥) → (b ≡ false) × (y .turn ≡ turn)

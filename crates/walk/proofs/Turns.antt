@@ -121,9 +121,9 @@ lacks-few s e =
     (λ t. omega (arith, ltb-true (length s) (bodyOf (getD s 0 0) + 1) t, body-most (getD s 0 0)))
     (λ h. absurd (false≢true (rw (f, g, h) at e)))))
 
-first-true : (a b : Bool) → a && b ≡ true → a ≡ true
-first-true true b e = refl
-first-true false b e = absurd (false≢true e)
+pub both : (a b : Bool) → a && b ≡ true → (a ≡ true) × (b ≡ true)
+both true b e = (refl, e)
+both false b e = absurd (false≢true e)
 
 length-held : (input : List ℕ) (at have : ℕ) → have ≤ length input → length (heldOf input at have) ≡ have - at
 length-held input at have h = length-take-le (have - at) (drop at input) (omega (arith, length-drop at input, h))
@@ -145,5 +145,5 @@ module _ (input : List ℕ) (s : State) {d : Decoded} {lacking : Bool} (e : d �
   -- a turn that reads holds less than the longest step
   pub fill-starved : s .have ≤ length input → lacking && not (s .ended) ≡ true → s .have - s .at < 35
   fill-starved h t =
-      let few = lacks-few (heldOf input (s .at) (s .have)) (rw e at (sym l ∙ first-true lacking (not (s .ended)) t)) in
+      let few = lacks-few (heldOf input (s .at) (s .have)) (rw e at (sym l ∙ both lacking (not (s .ended)) t .0)) in
       omega (arith, few, length-held input (s .at) (s .have) h)

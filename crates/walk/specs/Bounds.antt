@@ -2,7 +2,6 @@
 use Prim.Native.Nat.{ℕ, _+_, _-_, _≤_, _<_}
 use mathlib.Core.Path.{_≡_}
 use Rattle.turns.specs.declared.state.State.{State}
-use Rattle.codec.specs.declared.step.Step.{Step}
 use Rattle.walk.specs.declared.turn.Turn.{Turn}
 use Rattle.walk.specs.declared.turn.Turn.the-variants.{Open, Recover, Fill, Call, Lay, Bad, End, Flush, Fail}
 use Rattle.walk.specs.declared.turn.Taken.{Taken}

@@ -2,7 +2,6 @@ use Prim.Native.Nat.{_-_}
 use mathlib.Core.Bool.{not}
 use mathlib.Core.Path.{_∙_}
 use lib.Dec.{eqb}
-use Rattle.walk.specs.Turn.{takenOf}
 use Rattle.walk.proofs.Turns.{aside-comes, taken-starved, flush-taken, fill-taken, fill-starved, step-taken}
 use borrow.Author.Needs.{needs}
 use Rattle.walk.proofs.turn.take_step.Statement.{statement}
