@@ -10,8 +10,9 @@ what the call must answer and leave.
 A case depends on the seed and its own number (from 0) alone. The cases of the
 reel library (document 02, Req 02) are made by rawreels.py, those of the
 listening room's calls (Req 03) by rawlistening.py, those of a group's publish
-(Req 06) by rawgroup.py, and those with one cause alone, of any call, by
-rawalone.py, in the same format.
+(Req 06) by rawgroup.py, those with one cause alone, of any call, by
+rawalone.py, and those of open reels without a speed (Req 07) by rawspeeds.py,
+in the same format.
 
 INPUT. 64-bit words, lowest byte first, case after case up to the end of file:
     word  0       call: 0 lay, 1 begin, 2 read, 3 write, 4 finish, 5 publish,
@@ -46,17 +47,18 @@ WANT. One line of text a case, 12 decimal fields parted by one space:
     digest of the image, digest of the trace, digest of the desk
 The answer is the refusal's number, or 20 ok, 21 start, 22 own, 23 copy,
 24 home, 25 empty, 26 sealed, 27 end, 28 wait, 29 none, 30 held, 31 cleared,
-32 clean, 33 replayed, 34 reel, 35 unused, 36 unknown, 37 metres, 38 found. The
-value goes with start, sealed, end, wait, held, cleared, replayed, metres, found
-(the record), 7 and 12; for 13 it is 22, 23 or 24 as the store read, with 34,
-35, 15, 16 and 17, and 0 where the store refused. The four words go with own,
-copy and home, with ok of 11 (the words packed) and with reel (shelf, carrier,
-speed, seconds); unused fields are 0. Entries is their number; they stand at
-the front of the trace. The digests are of what the call leaves, refused or
-not; 0 where the call takes no such part (lay: image alone; begin, abandon,
-16: desk alone; open: image, trace and the desk it gives; read, write, 13, 14,
-17, 19: image and desk; finish, publish, settle, reclaim, 18, 20: all three;
-recover: image and trace; 11, 12, 15: none).
+32 clean, 33 replayed, 34 reel, 35 unused, 36 unknown, 37 metres, 38 found,
+39 speed to find. The value goes with start, sealed, end, wait, held, cleared,
+replayed, metres, found (the record), 7 and 12; for 13 it is 22, 23 or 24 as
+the store read, with 34, 35, 39, 15, 16 and 17, and 0 where the store refused.
+The four words go with own, copy and home, with ok of 11 (the words packed) and
+with reel and speed to find (shelf, carrier, speed, seconds); unused fields are
+0. Entries is their number; they stand at the front of the trace. The digests
+are of what the call leaves, refused or not; 0 where the call takes no such
+part (lay: image alone; begin, abandon, 16: desk alone; open: image, trace and
+the desk it gives; read, write, 13, 14, 17, 19: image and desk; finish,
+publish, settle, reclaim, 18, 20: all three; recover: image and trace; 11, 12,
+15: none).
 
 DIGEST of k words: d = k at first, then for each word w, with its parts
 w % 2**32 and then w // 2**32:
@@ -87,7 +89,7 @@ CALLS = STORE_CALLS + REEL_CALLS + LISTENING_CALLS + [GROUP_CALL]
 PHASES = ["idle", "active", "sealed", "published"]
 ANSWERS = ["ok", "start", "own", "copy", "home", "empty", "sealed", "end", "wait",
            "none", "held", "cleared", "clean", "replayed", "reel", "unused", "unknown", "metres",
-           "found"]
+           "found", "speed to find"]
 # Of the store's single calls; for the others see like().
 WITH_DESK = STORE_CALLS[1:9]
 WITH_IMAGE = [c for c in STORE_CALLS if c not in ("begin", "abandon")]
@@ -1051,7 +1053,7 @@ def count(cases):
 
 def main(words, make, usage, first=0):
     """The commands of raw.py, and with other cases, numbered from first on, those of rawreels.py,
-    rawlistening.py, rawgroup.py and rawalone.py."""
+    rawlistening.py, rawgroup.py, rawalone.py and rawspeeds.py."""
     if len(words) != 3 or words[0] not in ("in", "packed", "want", "count", "show"):
         sys.exit(usage)
     seed, number = int(words[1]), int(words[2])

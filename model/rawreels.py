@@ -1,5 +1,5 @@
-"""Raw cases of the reel library (document 02, Req 02): one call each, and what
-it must answer and leave.
+"""Raw cases of the reel library (document 02, Req 02 and Req 07): one call each,
+and what it must answer and leave.
 
     python3 rawreels.py in SEED COUNT > cases       inputs of COUNT cases
     python3 rawreels.py packed SEED COUNT > cases   the same, packed
@@ -9,7 +9,8 @@ it must answer and leave.
 
 The format is that of raw.py, described there. A case depends on the seed and
 its own number (from 0) alone. Stored, the cases stand behind those of raw.py;
-the numbers in their lines go on from there.
+the numbers in their lines go on from there. More cases of Req 07 are made by
+rawspeeds.py.
 """
 
 import itertools
@@ -26,7 +27,8 @@ SHELF, CARRIER, SPEED, SECONDS = range(4)
 
 # ---- kinds of four numbers -----------------------------------------------
 # A kind is its verdict, which is reel, unused, 15, 16 or 17, and the fields that it puts into a good
-# reel, each with the numbers to choose from.
+# reel, each with the numbers to choose from. Good is what can be stored, an open reel without a speed too;
+# what becomes of that one is in without_speed().
 
 TAKEN = {1: [0, 1, 2, 3, 4, 5], 2: [0, 1], 3: [0]}
 NOT_TAKEN = {1: [6], 2: [2, 3, 4, 5, 6], 3: [1, 2, 3, 4, 5, 6]}
@@ -97,7 +99,7 @@ LENGTHS = dict(length_kinds())
 
 
 def good_reel(rng):
-    """A reel with nothing bad in it."""
+    """A reel with nothing bad in it; it may be an open reel without a speed."""
     carrier = rng.choice([1, 1, 2, 3])
     return [rng.choice([1, 999999, rng.randrange(1, 247), rng.randrange(1, 1000000)]), carrier,
             rng.choice(TAKEN[carrier]),
@@ -190,9 +192,19 @@ TURNS = ([(call, kind, None) for call in ("pack", "unpack", "length") for kind i
          + [(call, verdict, ABOVE) for call in ("read reel", "write reel") for verdict in VERDICTS])
 
 
+def without_speed(call, verdict):
+    """The verdict for an open reel without a speed: packed or written it is 16, before 17; unpacked or read,
+    and not bad otherwise, it is marked; its length is as it was."""
+    if call in ("pack", "write reel"):
+        return 16 if verdict in ("reel", 17) else verdict
+    return "speed to find" if verdict == "reel" and call != "length" else verdict
+
+
 def answer_aimed(call, verdict, four, how):
     """The answer, and for a read that the store takes own, copy or home."""
     how = 2 if how == ABOVE else how
+    if [four[CARRIER], four[SPEED]] == [1, 0]:
+        verdict = without_speed(call, verdict)
     if call == "read reel":
         return (verdict, how) if how in WHERE else (how, None)
     if verdict == "unused" and call in ("pack", "write reel"):  # it is not written

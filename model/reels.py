@@ -1,4 +1,5 @@
-"""Reel records (document 02, Req 02): one agreed meaning for the four words.
+"""Reel records (document 02, Req 02 and Req 07): one agreed meaning for the
+four words.
 
 The library sits above the store: it calls store.read and store.write and
 knows nothing else of the store's inside. A reel is a list of four numbers:
@@ -34,13 +35,19 @@ def speed_right(carrier, speed):
     return False
 
 
+def speed_missing(carrier, speed):
+    """An open reel without a speed (Req 07). It can be stored from earlier."""
+    return carrier == 1 and speed == 0
+
+
 def seconds_right(seconds):
     """Word 3 is the playing time in seconds, 0 to 359,999."""
     return 0 <= seconds <= 359999
 
 
 def bad_number(shelf, carrier, speed, seconds):
-    """15, 16 or 17, checked in that order; 0 for a good reel."""
+    """What is bad to read: 15, 16 or 17, checked in that order; 0 for a good
+    reel."""
     if not shelf_right(shelf):  # shelf number out of range
         return 15
     if not speed_right(carrier, speed):  # carrier or speed not allowed
@@ -50,15 +57,30 @@ def bad_number(shelf, carrier, speed, seconds):
     return 0
 
 
+def refused_number(shelf, carrier, speed, seconds):
+    """What is refused when packed or written: what is bad to read, and an open
+    reel without a speed. That is 16 at 16's place: after 15, before 17."""
+    number = bad_number(shelf, carrier, speed, seconds)
+    if number != 15 and speed_missing(carrier, speed):
+        return 16
+    return number
+
+
+def mark(carrier, speed):
+    """What a good reel is read as: an open reel without a speed, and it alone,
+    is marked "speed to find"."""
+    return "speed to find" if speed_missing(carrier, speed) else "reel"
+
+
 def meaning(words, where=0):
-    """The answer for a record's words: a reel; four zero words are an unused
-    record; otherwise the number names the first bad word."""
+    """The answer for a record's words: a reel, marked or not; four zero words
+    are an unused record; otherwise the number names the first bad word."""
     if words == UNUSED:
         return store.said("unused", where)
     number = bad_number(*words)
     if number:
         return store.no(number, where)
-    return store.said("reel", where, words)
+    return store.said(mark(words[1], words[2]), where, words)
 
 
 # ---- the calls -----------------------------------------------------------
@@ -66,14 +88,15 @@ def meaning(words, where=0):
 def pack(reel):
     """A reel's words, each number at its place. An unused record is not
     written: it gives 15."""
-    number = bad_number(*reel)
+    number = refused_number(*reel)
     if number:
         return store.result(store.no(number))
     return store.result(store.said("ok", words=reel))
 
 
 def unpack(words):
-    """The reel, "unused", or the number of the first bad word."""
+    """The reel, "speed to find" with the reel, "unused", or the number of the
+    first bad word."""
     return store.result(meaning(words))
 
 
@@ -88,7 +111,8 @@ def read(image, desk, session, record):
 
 def write(image, desk, session, record, reel):
     """15, 16 and 17 are checked before any store check and leave all as it
-    was; then the store writes the packed words."""
+    was; then the store writes the packed words. What is stored at the record
+    does not matter."""
     answer = pack(reel)["answer"]
     if answer["name"] == "no":
         return store.result(answer, desk, image)
@@ -97,8 +121,8 @@ def write(image, desk, session, record, reel):
 
 def length(words):
     """Seconds times speed, divided by 10,000, rounded down to metres; with
-    code 0 "unknown", for an unused record too. A bad record is refused as on
-    reading."""
+    code 0 "unknown", for an unused record and a speed to find too. A bad
+    record is refused as on reading."""
     answer = meaning(words)
     if answer["name"] == "no":
         return store.result(answer)

@@ -20,6 +20,7 @@ import rawalone
 import rawgroup
 import rawlistening
 import rawreels
+import rawspeeds
 import reels
 import reelwalk
 import store
@@ -1556,20 +1557,25 @@ def stream_kinds(st):
 
 # ---- tests of the reel library -------------------------------------------
 
-GOOD_REELS = [[1, 1, 0, 0], [999999, 1, 5, 359999], [5, 1, 1, 1], [5, 1, 2, 60], [70000, 1, 3, 3600],
+GOOD_REELS = [[1, 1, 1, 0], [999999, 1, 5, 359999], [5, 1, 1, 1], [5, 1, 2, 60], [70000, 1, 3, 3600],
               [5, 1, 4, 2 ** 16], [5, 2, 0, 0], [999999, 2, 1, 359999], [1, 3, 0, 0], [5, 3, 0, 359999]]
+# Open reels without a speed: read with a mark, packed and written 16. And such with seconds out of range: read 17,
+# packed and written 16.
+WITHOUT_SPEED = [[1, 1, 0, 0], [999999, 1, 0, 359999], [5, 1, 0, 3600], [5, 1, 0, 1]]
+NOR_SECONDS = [[5, 1, 0, 360000], [1, 1, 0, 2 ** 32], [5, 1, 0, 2 ** 32 + 5], [5, 1, 0, 2 ** 63], [999999, 1, 0, TOP]]
 # By refusal, words that it names: at the edge, far out of range, with more than one of them bad.
 BAD_REELS = {
     15: [[0, 1, 3, 60], [1000000, 1, 3, 60],
          [2 ** 32, 1, 3, 60], [2 ** 32 + 5, 1, 3, 60], [2 ** 63, 1, 3, 60], [TOP, 1, 3, 60],
          [0, 4, 3, 60], [0, 2, 2, 60], [0, 1, 6, 60], [0, 1, 3, 360000], [1000000, 3, 1, 360000],
          [TOP] * 4, [0, 1, 0, 0], [0, 0, 1, 0], [0, 0, 0, 1], [0, TOP, 0, 0], [0, 0, 2 ** 32, 0],
-         [0, 2 ** 63, 0, 2 ** 63]],
+         [0, 2 ** 63, 0, 2 ** 63], [0, 1, 0, 60], [1000000, 1, 0, 60], [0, 1, 0, 360000], [TOP, 1, 0, TOP]],
     16: [[5, 0, 0, 60], [5, 4, 0, 60], [5, 1, 6, 60], [5, 2, 2, 60], [5, 2, 5, 60], [5, 3, 1, 60],
          [5, 3, 5, 60], [5, 257, 0, 60], [5, 2 ** 32 + 1, 0, 60], [5, TOP, 0, 60], [5, 1, 256, 60],
          [5, 3, 2 ** 32, 60], [5, 1, 2 ** 32 + 3, 60], [5, 1, 2 ** 63, 60], [5, 2, TOP, 60],
-         [5, 0, 0, 360000], [5, 2, 2, 360000], [5, 1, 6, TOP], [5, 0, 0, 0]],
-    17: [[5, 1, 3, 360000], [5, 2, 1, 360000], [5, 3, 0, 360000],
+         [5, 0, 0, 360000], [5, 2, 2, 360000], [5, 1, 6, TOP], [5, 0, 0, 0],
+         [5, 2 ** 63 + 1, 0, 60], [5, 1, 2 ** 32, 60], [5, 257, 256, 60]],
+    17: [[5, 1, 3, 360000], [5, 1, 1, 360000], [5, 2, 1, 360000], [5, 2, 0, 360000], [5, 3, 0, 360000],
          [5, 1, 3, 2 ** 32], [5, 1, 3, 2 ** 32 + 5], [5, 1, 3, 2 ** 63], [5, 1, 3, TOP]],
 }
 
@@ -1584,21 +1590,28 @@ def reel_numbers(lib):
     for reel in GOOD_REELS:
         same(told(lib.pack(reel)), ("ok", 0, reel), "pack %s" % reel)
         same(told(lib.unpack(reel)), ("reel", 0, reel), "unpack %s" % reel)
+    for reel in WITHOUT_SPEED:
+        same(told(lib.pack(reel)), (16, 0, ZEROS), "pack %s" % reel)
+        same(told(lib.unpack(reel)), ("speed to find", 0, reel), "unpack %s" % reel)
+    for reel in NOR_SECONDS:
+        for call, number in ((lib.pack, 16), (lib.unpack, 17), (lib.length, 17)):
+            same(told(call(reel)), (number, 0, ZEROS), "%s %s" % (call.__name__, reel))
     for number, bad in BAD_REELS.items():
         for reel in bad:
             for call in (lib.pack, lib.unpack, lib.length):
                 same(told(call(reel)), (number, 0, ZEROS), "%s %s" % (call.__name__, reel))
     same(told(lib.unpack(ZEROS)), ("unused", 0, ZEROS), "unused, read as such")
     same(told(lib.pack(ZEROS)), (15, 0, ZEROS), "unused, not written")
-    taken = {(1, code) for code in range(6)} | {(2, 0), (2, 1), (3, 0)}
+    packable = {(1, 1), (1, 2), (1, 3), (1, 4), (1, 5), (2, 0), (2, 1), (3, 0)}
     for shelf, carrier, code, seconds in itertools.product(
             (0, 1, 999999, 1000000), range(6), range(8), (0, 359999, 360000)):
-        reel = [shelf, carrier, code, seconds]
-        rights = {15: shelf in (1, 999999), 16: (carrier, code) in taken, 17: seconds < 360000}
-        bad = [number for number, right in rights.items() if not right]
-        same(answer_of(lib.pack(reel)), (bad[0] if bad else "ok", 0), "pack %s" % reel)
-        if reel != ZEROS:
-            same(answer_of(lib.unpack(reel)), (bad[0] if bad else "reel", 0), "unpack %s" % reel)
+        reel, pair = [shelf, carrier, code, seconds], (carrier, code)
+        for call, taken, good in ((lib.pack, packable, "ok"), (lib.unpack, packable | {(1, 0)}, "reel")):
+            rights = {15: shelf in (1, 999999), 16: pair in taken, 17: seconds < 360000}
+            bad = [number for number, right in rights.items() if not right]
+            wanted = bad[0] if bad else good if pair in packable else "speed to find"
+            if reel != ZEROS:
+                same(answer_of(call(reel)), (wanted, 0), "%s %s" % (call.__name__, reel))
 
 
 # By code: seconds and metres.
@@ -1610,13 +1623,13 @@ METRES = {1: [(0, 0), (21, 0), (22, 1), (2499, 118), (2500, 119), (359999, 17135
 
 
 def reel_lengths(lib):
-    """Lengths by hand: rounded down; 0 s is 0 metres; unknown with code 0 alone."""
+    """Lengths by hand: rounded down; 0 s is 0 metres; unknown with code 0 alone, of open reels too."""
     for code, lengths in METRES.items():
         for seconds, metres in lengths:
             what = "%d s at code %d" % (seconds, code)
             same(told(lib.length([5, 1, code, seconds])), ("metres", metres, ZEROS), what)
     same(told(lib.length([5, 2, 1, 2500])), ("metres", 119, ZEROS), "cassette")
-    for words in ([5, 1, 0, 3600], [5, 2, 0, 60], [5, 3, 0, 359999], [5, 1, 0, 0], ZEROS):
+    for words in WITHOUT_SPEED + [[5, 1, 0, 0], [5, 2, 0, 60], [5, 3, 0, 359999], ZEROS]:
         same(told(lib.length(words)), ("unknown", 0, ZEROS), "length of %s" % words)
 
 
@@ -1636,8 +1649,9 @@ REEL_PLACES = {"own": 0, "copy": 1, "home": 2}  # which record of the scene is w
 
 
 def reel_reads(lib):
-    """Read: reel, unused and bad words from each place; the store's refusals come first."""
+    """Read: reel, marked or not, unused and bad words from each place; the store's refusals come first."""
     cases = [("reel", reel, reel) for reel in GOOD_REELS] + [("unused", ZEROS, ZEROS)]
+    cases += [("speed to find", reel, reel) for reel in WITHOUT_SPEED] + [(17, words, ZEROS) for words in NOR_SECONDS]
     cases += [(number, words, ZEROS) for number, bad in BAD_REELS.items() for words in bad]
     for name, record in REEL_PLACES.items():
         for wanted, words, reel in cases:
@@ -1645,7 +1659,7 @@ def reel_reads(lib):
             done = lib.read(image, desk, 0, record)
             same(told(done), (wanted, name, reel), "%s read from %s" % (words, name))
             same((done["desk"], done["image"], done["entries"]), (desk, image, []), "read leaves all")
-    for words in [ZEROS, GOOD_REELS[0]] + [bad[0] for bad in BAD_REELS.values()]:
+    for words in [ZEROS, GOOD_REELS[0], WITHOUT_SPEED[0], NOR_SECONDS[0]] + [bad[0] for bad in BAD_REELS.values()]:
         image, desk = reel_scene(words, words, words)
         image[4:12] = words * 2
         for scene, number in (
@@ -1656,6 +1670,20 @@ def reel_reads(lib):
             done = lib.read(*scene)
             same(told(done), (number, 0, ZEROS), "refused by the store, words %s" % words)
             same((done["image"], done["desk"]), scene[:2], "refused by the store")
+
+
+def reel_marks(lib):
+    """The mark is by the words that are read: own copy, shown copy or home record, whatever the other place has."""
+    for wanted, seen, others in (("speed to find", [5, 1, 0, 60], ([6, 1, 3, 60], [6, 2, 0, 60], ZEROS, [6, 1, 6, 60])),
+                                 ("reel", [6, 1, 3, 60], ([5, 1, 0, 60],)), ("reel", [6, 2, 0, 60], ([5, 1, 0, 60],))):
+        for other in others:
+            for name, record, copy, home in (("own", 0, seen, other), ("copy", 1, seen, other),
+                                             ("home", 1, other, seen)):
+                image, desk = reel_scene(copy, copy)
+                image[4:12] = home * 2
+                if name == "home":  # the copy is of a later time
+                    desk["sessions"][0]["number"] = 4
+                same(told(lib.read(image, desk, 0, record)), (wanted, name, seen), "%s beside %s" % (seen, other))
 
 
 def write_scenes():
@@ -1692,11 +1720,33 @@ def reel_writes(lib):
             if wanted[0] == "ok":
                 again = lib.read(image, done["desk"], session, record)
                 same(told(again), ("reel", "own", reel), "read again")
-        for number, bad in [*BAD_REELS.items(), (15, [ZEROS])]:
+        for number, bad in [*BAD_REELS.items(), (15, [ZEROS]), (16, WITHOUT_SPEED + NOR_SECONDS)]:
             for reel in bad:
                 done = lib.write(*scene, reel)
                 same(told(done), (number, 0, ZEROS), "write of %s" % reel)
                 same((done["desk"], done["image"], done["entries"]), (desk, image, []), "all left")
+
+
+# What a reel gives that is written over any words.
+OVER = [([8, 1, 0, 60], 16), ([8, 1, 1, 60], "ok"), ([8, 1, 2, 60], "ok"), ([8, 1, 3, 60], "ok"), ([8, 1, 4, 60], "ok"),
+        ([8, 1, 5, 60], "ok"), ([8, 1, 6, 60], 16), ([8, 2, 0, 60], "ok"), ([8, 2, 1, 60], "ok"), ([8, 2, 2, 60], 16),
+        ([8, 3, 0, 60], "ok"), ([8, 3, 1, 60], 16)]
+
+
+def reel_rewrites(lib):
+    """What is stored at the record does not matter to a write: in the own copy, a shown copy, the home record."""
+    for words in ([5, 1, 0, 60], [8, 1, 0, 60], [5, 1, 3, 60], [5, 2, 0, 60], ZEROS, [5, 1, 6, 60]):
+        for (reel, answer), (name, record) in itertools.product(OVER, REEL_PLACES.items()):
+            image, desk = reel_scene(words, words, words)
+            what = "%s over %s in %s" % (reel, words, name)
+            done = lib.write(image, desk, 0, record, reel)
+            wanted = (7, 1) if (name, answer) == ("copy", "ok") else (answer, 0)  # session 1 holds it
+            same(told(done), (*wanted, ZEROS), what)
+            same(done["image"], image, what)
+            if wanted[0] == 16:
+                same(done["desk"], desk, what)
+            if wanted[0] == "ok":
+                same(told(lib.read(image, done["desk"], 0, record)), ("reel", "own", reel), what)
 
 
 @functools.lru_cache(maxsize=None)
@@ -1713,7 +1763,7 @@ def store_did(case):
 def told_wanted(case, aim, where):
     """Answer, value and words that a reel case must give, found without the reel library."""
     call, value, words = case["call"], where or 0, ZEROS
-    if aim == "reel" or (call, aim) == ("pack", "ok"):
+    if aim in ("reel", "speed to find") or (call, aim) == ("pack", "ok"):
         words = store_did(case)["answer"]["words"] if call == "read reel" else case["words"]
     if aim == 7:
         value = case["desk"]["marks"][case["record"]]
@@ -1724,17 +1774,22 @@ def told_wanted(case, aim, where):
     return aim, value, words
 
 
-def reel_cases(lib):
-    """Each reel case meets its aim and leaves what it must; none alters its input."""
-    for number, (case, (call, aim, where)) in enumerate(reel_round()):
-        what = "reel case %d, %s" % (number, call)
+def aims_met(lib, cases, title):
+    """Each of these cases meets its aim and leaves what it must; none alters its input."""
+    for number, (case, (call, aim, where)) in enumerate(cases):
+        what = "%s case %d, %s" % (title, number, call)
         done = made_unaltered(case, lib)
         same(case["call"], call, what)
         same(told(done), told_wanted(case, aim, where), what)
         written = call == "write reel" and aim in ("ok", 7)
         desk = store_did(case)["desk"] if written else case["desk"]
         same((done["desk"], done["image"], done["entries"]), (desk, case["image"], []), "left by " + what)
-    return "%d cases" % len(reel_round())
+    return "%d cases" % len(cases)
+
+
+def reel_cases(lib):
+    """The reel cases."""
+    return aims_met(lib, reel_round(), "reel")
 
 
 def reel_aims(lib):
@@ -1749,10 +1804,10 @@ def reel_aims(lib):
                 found.add(part)
     bad = [15, 16, 17]
     wanted = {(call, aim, None) for call, aims in (
-        ("pack", ["ok"] + bad), ("unpack", ["reel", "unused"] + bad),
+        ("pack", ["ok"] + bad), ("unpack", ["reel", "speed to find", "unused"] + bad),
         ("length", ["metres", "unknown"] + bad), ("read reel", [1, 2, 4, 5, 6]),
         ("write reel", ["ok", 1, 2, 4, 5, 6, 7, 8, 9] + bad)) for aim in aims}
-    wanted |= {("read reel", aim, where) for aim in ["reel", "unused"] + bad for where in REEL_PLACES}
+    wanted |= {("read reel", aim, where) for aim in ["reel", "speed to find", "unused"] + bad for where in REEL_PLACES}
     same(seen, wanted, "answers of the reel cases")
     huge = {2 ** 32, 2 ** 32 + 5, 2 ** 63, TOP}
     needed = [{0, 1, 999999, 1000000} | huge, {0, 1, 2, 3, 4, TOP}, {0, 1, 2, 3, 4, 5, 6, TOP},
@@ -2081,7 +2136,7 @@ def older_cases(files):
 
 def alone_cases(files):
     """Those that have one cause alone."""
-    return as_stored(files, rawalone.FIRST, stored.RAW_CASES)
+    return as_stored(files, rawalone.FIRST, rawspeeds.FIRST)
 
 
 def alone_named():
@@ -2119,7 +2174,6 @@ def alone_aims(st):
         same(tuple(raw.case_words(case)) in before, False, what + " is there already")
         seen += [alone_like(case)] if answer in (12, 3) else []
         answers[case["call"]] += 1
-    same(len(stored_cases()), rawalone.FIRST + len(rawalone.TURNS), "stored cases")
     for call, image, desk, trace, answer in alone_named():
         case = dict(raw.blank(call), image=image, desk=desk, trace=trace)
         same(answer_of(raw.run(case)), answer, "the named case of " + call)
@@ -2127,12 +2181,146 @@ def alone_aims(st):
     return "%d cases by call: %s" % (len(rawalone.TURNS), dict(answers))
 
 
+# ---- raw cases of open reels without a speed -----------------------------
+
+@functools.lru_cache(maxsize=None)
+def speed_round():
+    """The cases of open reels without a speed, with the stored ones' seed, each with its aim."""
+    return [rawspeeds.make(stored.RAW_SEED, number) for number in range(len(rawspeeds.TURNS))]
+
+
+def speed_cases(lib):
+    """The cases of open reels without a speed."""
+    return aims_met(lib, speed_round(), "speed")
+
+
+def reel_about(case):
+    """The four numbers of a reel case, and what the store does: its refusal, where it reads, the way it writes."""
+    if case["call"] not in ("read reel", "write reel"):
+        return case["words"], None
+    answer = store_did(case)["answer"]
+    if answer["name"] == "ok":
+        return case["words"], rawreels.write_way(case)
+    return case["words"] if case["call"] == "write reel" else answer["words"], answer["number"] or answer["name"]
+
+
+def pairs_wanted():
+    """By hand: call, carrier and code, what the store does, answer."""
+    for pair in itertools.product((1, 2, 3), range(7)):
+        packed = read = length = 16
+        if pair in ((1, 1), (1, 2), (1, 3), (1, 4), (1, 5), (2, 1)):
+            packed, read, length = "ok", "reel", "metres"
+        if pair in ((2, 0), (3, 0)):
+            packed, read, length = "ok", "reel", "unknown"
+        if pair == (1, 0):
+            packed, read, length = 16, "speed to find", "unknown"
+        yield from (("pack", pair, None, packed), ("unpack", pair, None, read), ("length", pair, None, length))
+        yield from (("write reel", pair, way, packed) for way in ("first", "further", "overwritten"))
+        yield from (("read reel", pair, where, read) for where in ("own", "copy", "home"))
+    for number in (1, 2, 4, 5, 6, 7, 8, 9):
+        yield "write reel", (1, 0), number, 16
+        yield "write reel", "with a speed", number, number
+    for number in (1, 2, 4, 5, 6):
+        yield "read reel", (0, 0), number, number  # refused, it has no words
+
+
+# By hand: four numbers, and the answers of pack, unpack, read, write and length.
+SPEED_EDGES = {(1, 1, 0, 0): (16, "speed to find", "speed to find", 16, "unknown"),
+               (999999, 1, 0, 359999): (16, "speed to find", "speed to find", 16, "unknown"),
+               (1, 1, 0, 360000): (16, 17, 17, 16, 17), (0, 1, 0, 0): (15,) * 5, (1000000, 1, 0, 359999): (15,) * 5,
+               (0, 1, 0, 360000): (15,) * 5, (0, 0, 0, 0): (15, "unused", "unused", 15, "unknown")}
+LOW_BITS = [(257, 0), (2 ** 32 + 1, 0), (2 ** 63 + 1, 0), (1, 256), (1, 2 ** 32), (1, 2 ** 63)]
+
+
+def edges_wanted():
+    """By hand: call, four numbers or carrier and code, answer."""
+    for four, answers in SPEED_EDGES.items():
+        yield from zip(("pack", "unpack", "read reel", "write reel", "length"), itertools.repeat(four), answers)
+    for pair in LOW_BITS:
+        yield from ((call, pair, 16) for call in ("pack", "unpack", "read reel", "write reel"))
+
+
+def overs_wanted():
+    """By hand: carrier and code of what is written, where the session sees the record, carrier and code of what is
+    stored there, answer."""
+    for (_, *pair, _), answer in OVER:
+        for where in ("own", "home"):
+            yield tuple(pair), where, (1, 0), answer
+        yield tuple(pair), "copy", (1, 0), 7 if answer == "ok" else 16
+    for where in ("own", "home"):
+        yield from (((1, 0), where, stored, 16) for stored in ((1, 3), (0, 0), (1, 6)))
+
+
+def besides_wanted():
+    """By hand: where a read finds its words, carrier and code there and at the other place, answer."""
+    for where in ("own", "copy", "home"):
+        yield from ((where, (1, 0), other, "speed to find") for other in ((1, 3), (0, 0), (1, 6)))
+        yield where, (1, 3), (1, 0), "reel"
+
+
+def other_words(case, where):
+    """What is at the place of a record that a read does not come to; None if there is no such place."""
+    if where != "home":
+        return store.home(case["image"], case["record"])
+    held = [words for e in case["desk"]["sessions"] for record, words in store.copies_of(e) if record == case["record"]]
+    return held[0] if held else None
+
+
+def speed_seen(case, call, aim, where):
+    """What a case has of all that is wanted by hand."""
+    four, how = reel_about(case)
+    pair = tuple(four[1:3])
+    yield from ((call, pair, how, aim), (call, tuple(four), aim), (call, pair, aim))
+    if call == "write reel":
+        if pair in ((1, 1), (1, 2), (1, 3), (1, 4), (1, 5)):
+            yield call, "with a speed", how, aim
+        seen = raw.run(dict(case, call="read"))["answer"]
+        yield pair, seen["name"], tuple(seen["words"][1:3]), aim
+        slot = store_did(case)["desk"]["sessions"][case["session"] % 16]["slot"]
+        yield "slot", pair == (1, 0), how, slot, aim
+    if where and other_words(case, where):
+        yield where, pair, tuple(other_words(case, where)[1:3]), aim
+    if how == 2:
+        yield "clock above word 3", call, pair == (1, 0), store.broken_rules(case["desk"], case["image"]) == ["ceiling"]
+
+
+def speed_lines():
+    """By hand: lines of raw cases."""
+    for call, line in (("pack", "7 11 16 0 0 0 0 0 0 0 0 0"), ("unpack", "7 12 39 0 5 1 0 60 0 0 0 0"),
+                       ("length", "7 15 36 0 0 0 0 0 0 0 0 0")):
+        same(raw.want_line(7, dict(raw.blank(call), words=[5, 1, 0, 60])), line, "line of " + call)
+    for where, line in (("own", "7 13 39 22 5 1 0 60 0 "), ("copy", "7 13 39 23 5 1 0 60 0 "),
+                        ("home", "7 13 39 24 5 1 0 60 0 ")):
+        image, desk = reel_scene(**{where: [5, 1, 0, 60]})
+        case = dict(raw.blank("read reel"), image=image, desk=desk, record=REEL_PLACES[where])
+        same(raw.want_line(7, case)[:len(line)], line, "line of a read from " + where)
+
+
+def speed_aims(lib):
+    """These cases have the stated form and are the stored ones; all that is wanted of them by hand occurs."""
+    seen, answers = set(), set()
+    for number, (case, (call, aim, where)) in enumerate(speed_round()):
+        what = "speed case %d" % number
+        check_format(case, what)
+        same(stored_cases()[rawspeeds.FIRST + number][0], case, what + " as it is stored")
+        answers.add((call, aim, where))
+        seen.update(speed_seen(case, call, aim, where))
+    same(len(stored_cases()), rawspeeds.FIRST + len(rawspeeds.TURNS), "stored cases")
+    wanted = {*pairs_wanted(), *edges_wanted(), *overs_wanted(), *besides_wanted()}
+    wanted |= {("slot", True, "first", 1, 16), ("slot", False, "first", 1, "ok")}
+    wanted |= {("clock above word 3", "write reel", without, True) for without in (True, False)}
+    wanted.add(("clock above word 3", "read reel", False, True))  # refused, it has no words
+    same(sorted(map(str, wanted - seen)), [], "what no case of open reels without a speed has")
+    speed_lines()
+    return "%d cases, %d answers, %d edges" % (len(speed_round()), len(answers), len(wanted))
+
+
 FILES = {module: module for module in (store, reels, listening)}
 BY_CEILING = [ceiling_opens, ceiling_orders, ceiling_publishes, ceiling_coherence, lives, ceiling_cases]
 BY_GROUP = [group_sets, group_orders, group_raises, group_singles, group_moment, group_cuts, group_ends, group_runs,
             group_cases]
 BY_STORE = [whole_case, edges, program_lines, answers, reads, crashes]
-BY_REELS = [reel_numbers, reel_lengths, reel_reads, reel_writes, reel_cases]
+BY_REELS = [reel_numbers, reel_lengths, reel_reads, reel_marks, reel_writes, reel_rewrites, reel_cases]
 BY_LISTENING = [listening_refusals, listening_begins, listening_finds, listening_runs, listening_cases]
 BY_WALK = [walk_cuts]
 ALL = [(test, store) for test in BY_STORE + BY_CEILING + [ceiling_aims, raw_cases, stream_kinds, stream_numbers]]
@@ -2141,6 +2329,7 @@ ALL += [(test, reelwalk) for test in BY_WALK]
 ALL += [(test, reels) for test in BY_REELS + [reel_aims]]
 ALL += [(test, listening) for test in BY_LISTENING + [listening_aims]]
 ALL += [(older_cases, FILES), (alone_cases, FILES), (alone_aims, store)]
+ALL += [(speed_cases, reels), (speed_aims, reels)]
 
 
 # ---- faulty copies -------------------------------------------------------
@@ -2502,7 +2691,7 @@ REEL_FAULTS = [
     ("a cassette takes code 0 alone", "return 0 <= speed <= 1", "return speed == 0"),
     ("a disc takes code 1", "return speed == 0", "return speed <= 1"),
     ("an open reel takes code 6", "return 0 <= speed <= 5", "return 0 <= speed <= 6"),
-    ("an open reel needs a speed", "return 0 <= speed <= 5", "return 1 <= speed <= 5"),
+    ("an open reel needs a speed when it is read", "return 0 <= speed <= 5", "return 1 <= speed <= 5"),
     ("a fourth carrier", "if carrier == 3:", "if carrier in (3, 4):"),
     ("carrier 0 with code 0", "if carrier == 3:", "if carrier in (0, 3):"),
     ("shelf number 1,000,000", "shelf <= 999999", "shelf <= 1000000"),
@@ -2520,8 +2709,8 @@ REEL_FAULTS = [
      "if not speed_right(carrier, speed) and seconds_right(seconds):"),
     ("17 before 15", "if not shelf_right(shelf):",
      "if not shelf_right(shelf) and seconds_right(seconds):"),
-    ("unused written", "number = bad_number(*reel)",
-     "number = bad_number(*reel) if reel != UNUSED else 0"),
+    ("unused written", "number = refused_number(*reel)",
+     "number = refused_number(*reel) if reel != UNUSED else 0"),
     ("shelf number 0 taken as unused", "if words == UNUSED:", "if words[0] == 0:"),
     ("words 0 and 1 at 0 taken as unused", "if words == UNUSED:", "if words[:2] == [0, 0]:"),
     ("words that add up to 0 taken as unused", "if words == UNUSED:", "if sum(words) % 2 ** 64 == 0:"),
@@ -2562,6 +2751,102 @@ REEL_FAULTS = [
     ("the length of a bad record is unknown",
      "    if answer[\"name\"] == \"no\":\n        return store.result(answer)\n",
      "    if answer[\"name\"] == \"no\":\n        return store.result(store.said(\"unknown\"))\n"),
+]
+
+# The same, of Req 07 in reels.py. In STORED_ONE `one` tells whether the record has an open reel without a speed.
+MISSING = "speed_missing(carrier, speed)"
+REFUSED = "    if number != 15 and %s:\n        return 16\n" % MISSING
+PACKED = "number = refused_number(*reel)"
+MARK = "return \"speed to find\" if %s else \"reel\"" % MISSING
+MARKED = "mark(words[1], words[2])"
+ANSWERED = "return store.said(%s, where, words)" % MARKED
+BAD_WORD = "    if number:\n        return store.no(number, where)\n"
+BAD_BUT = ("    if number == %d and speed_missing(words[1], words[2]):\n"
+           "        return store.said(\"speed to find\", where, words)\n")
+TO_READ = "meaning(answer[\"words\"], answer[\"name\"])"
+TO_WRITE = "    answer = pack(reel)[\"answer\"]\n"
+STORED_ONE = (TO_WRITE + "    seen = store.read(image, desk, session, record)[\"answer\"]\n"
+              "    one = speed_missing(seen[\"words\"][1], seen[\"words\"][2])\n    if %s:\n        answer = %s\n")
+TAKEN_ANYWAY = "store.said(\"ok\", words=reel)"
+NO_SPEED = "answer[\"number\"] == 16 and speed_missing(reel[1], reel[2]) and seconds_right(reel[3])"
+STOPPED = "return store.result(answer, desk, image)"
+UNKNOWN = "    if speed == 0:\n        return store.result(store.said(\"unknown\"))\n"
+UNKNOWN_BUT = "    if speed_missing(words[1], speed):\n        %s\n" + UNKNOWN
+SPEED_FAULTS = [
+    ("no speed is asked for", REFUSED, ""),
+    ("no speed is asked for when packed", PACKED,
+     "written = __import__(\"sys\")._getframe(1).f_code.co_name == \"write\"\n"
+     "    number = refused_number(*reel) if written else bad_number(*reel)"),
+    ("no speed is asked for when written", TO_WRITE, STORED_ONE % (NO_SPEED, TAKEN_ANYWAY)),
+    ("a cassette needs a speed", REFUSED, REFUSED.replace(MISSING, "carrier in (1, 2) and speed == 0")),
+    ("a cassette needs a speed, and no open reel", REFUSED, REFUSED.replace(MISSING, "carrier == 2 and speed == 0")),
+    ("a disc needs a speed", REFUSED, REFUSED.replace(MISSING, "carrier in (1, 3) and speed == 0")),
+    ("every carrier needs a speed", REFUSED, REFUSED.replace(MISSING, "speed == 0")),
+    ("an open reel with code 1 is refused too", REFUSED, REFUSED.replace(MISSING, "carrier == 1 and speed <= 1")),
+    ("an open reel with code 5 is refused too", REFUSED, REFUSED.replace(MISSING, "carrier == 1 and speed in (0, 5)")),
+    ("an open reel is refused", REFUSED, REFUSED.replace(MISSING, "carrier == 1")),
+    ("a speed is not asked for with 0 seconds", REFUSED, REFUSED.replace(MISSING, MISSING + " and seconds > 0")),
+    ("a speed is asked for after 17", REFUSED, REFUSED.replace("number != 15", "number == 0")),
+    ("a speed is asked for before 15", REFUSED, REFUSED.replace("number != 15 and ", "")),
+    ("a speed is asked for before 15 by a number too high", REFUSED, REFUSED.replace(
+        "number != 15", "(number != 15 or shelf > 0)")),
+    *[("without a speed it is %d" % number, REFUSED, REFUSED.replace("return 16", "return %d" % number))
+      for number in (15, 17)],
+    ("a stored one is bad", "number = bad_number(*words)", "number = refused_number(*words)"),
+    ("a stored one is unused", ANSWERED,
+     "if %s != \"reel\":\n        return store.said(\"unused\", where)\n    %s" % (MARKED, ANSWERED)),
+    ("a stored one is read with code 1", ANSWERED, ANSWERED.replace(
+        ", words)", ", [words[0], words[1], words[2] or int(words[1] == 1), words[3]])")),
+    ("the mark on a disc", MARK, MARK.replace(MISSING, "carrier in (1, 3) and speed == 0")),
+    ("the mark on a cassette with code 0", MARK, MARK.replace(MISSING, "carrier in (1, 2) and speed == 0")),
+    ("the mark on every code 0", MARK, MARK.replace(MISSING, "speed == 0")),
+    ("the mark on code 1", MARK, MARK.replace(MISSING, "carrier == 1 and speed <= 1")),
+    ("the mark on every open reel", MARK, MARK.replace(MISSING, "carrier == 1")),
+    ("the mark on what has a speed", MARK, MARK.replace(MISSING, "not " + MISSING)),
+    ("the mark on unused records", "    if words == UNUSED:\n        return store.said(\"unused\", where)\n",
+     "    if words == UNUSED:\n        return store.said(\"speed to find\", where)\n"),
+    ("no mark", MARK, "return \"reel\""),
+    ("the mark without the reel", ANSWERED, ANSWERED.replace(
+        "words)", "words if %s == \"reel\" else UNUSED)" % MARKED)),
+    ("the mark without own, copy or home", ANSWERED, ANSWERED.replace(
+        "where", "where if %s == \"reel\" else 0" % MARKED)),
+    ("the mark on seconds out of range", BAD_WORD, BAD_BUT % 17 + BAD_WORD),
+    ("the mark on a shelf number out of range", BAD_WORD, BAD_BUT % 15 + BAD_WORD),
+    ("no mark when read", TO_READ,
+     "dict(%s, name=\"reel\") if unpack(answer[\"words\"])[\"answer\"][\"name\"] == \"speed to find\" else %s"
+     % (TO_READ, TO_READ)),
+    ("no mark when unpacked", "return store.result(meaning(words))", "answer = meaning(words)\n"
+     "    return store.result(dict(answer, name=\"reel\") if answer[\"name\"] == \"speed to find\" else answer)"),
+    *[("no mark when read from " + where, ANSWERED, ANSWERED.replace(
+        MARKED, "\"reel\" if where == %r else %s" % (where, MARKED))) for where in ("own", "copy", "home")],
+    ("the mark by the home record", "    return dict(done, answer=%s)" % TO_READ,
+     "    at = 4 + 4 * record\n    answer = %s\n    if answer[\"name\"] in (\"reel\", \"speed to find\"):\n"
+     "        answer[\"name\"] = mark(image[at + 1], image[at + 2])\n    return dict(done, answer=answer)" % TO_READ),
+    ("the length of one is refused", UNKNOWN, UNKNOWN_BUT % "return store.result(store.no(16))"),
+    ("the length of one is 0 metres", UNKNOWN, UNKNOWN_BUT % "return store.result(store.said(\"metres\"))"),
+    ("the length of one is that at code 1", UNKNOWN, UNKNOWN_BUT % "speed = 1"),
+    ("the length of one is \"speed to find\"", UNKNOWN, UNKNOWN_BUT % "return store.result(answer)"),
+    ("a stored one may be written without a speed again", TO_WRITE, STORED_ONE % ("one and " + NO_SPEED, TAKEN_ANYWAY)),
+    *[("a stored one may be written without a speed again: " + where, TO_WRITE, STORED_ONE % (
+        "one and seen[\"name\"] == %r and %s" % (where, NO_SPEED), TAKEN_ANYWAY)) for where in ("own", "copy", "home")],
+    ("a speed is asked for only over a stored one", TO_WRITE, STORED_ONE % ("not one and " + NO_SPEED, TAKEN_ANYWAY)),
+    ("a speed is not asked for over an unused record", TO_WRITE, STORED_ONE % (
+        "seen[\"name\"] != \"no\" and seen[\"words\"] == UNUSED and " + NO_SPEED, TAKEN_ANYWAY)),
+    ("a stored one needs a speed as a cassette or disc too", TO_WRITE, STORED_ONE % (
+        "one and reel[2] == 0 and answer[\"name\"] == \"ok\"", "store.no(16)")),
+    ("a stored one stays an open reel", TO_WRITE, STORED_ONE % (
+        "one and reel[1] != 1 and answer[\"name\"] == \"ok\"", "store.no(16)")),
+    ("a stored one is not written", TO_WRITE, STORED_ONE % ("one and answer[\"name\"] == \"ok\"", "store.no(16)")),
+    ("the store's checks before a speed is asked for", TO_WRITE,
+     TO_WRITE + "    done = store.write(image, desk, session, record, reel)\n"
+     "    if %s and done[\"answer\"][\"name\"] == \"no\":\n        return done\n" % NO_SPEED),
+    ("refused for want of a speed and written", STOPPED,
+     "written = dict(store.write(image, desk, session, record, reel), answer=answer)\n"
+     "        return written if %s else store.result(answer, desk, image)" % NO_SPEED),
+    ("refused for want of a speed the caller is idle", STOPPED, STOPPED.replace(
+        "desk", "store.made_idle(desk, session) if session < 16 and %s else desk" % NO_SPEED)),
+    ("written with code 1 for want of a speed", TO_WRITE, STORED_ONE % (
+        NO_SPEED, "store.said(\"ok\", words=[reel[0], 1, 1, reel[3]])")),
 ]
 
 # The same, of listening.py. In SHOWN_IF a copy is shown where this holds of its holder e and its place.
@@ -2809,6 +3094,7 @@ PLANTED = [("store.py", store, BY_STORE, [], STORE_FAULTS),
            ("store.py", store, BY_CEILING, [ceiling_cases], CEILING_FAULTS),
            ("store.py", store, BY_GROUP, [group_cases], GROUP_FAULTS),
            ("reelwalk.py", reelwalk, BY_WALK, [], WALK_FAULTS), ("reels.py", reels, BY_REELS, [], REEL_FAULTS),
+           ("reels.py", reels, BY_REELS + [speed_cases], [speed_cases], SPEED_FAULTS),
            ("listening.py", listening, BY_LISTENING, [listening_cases], LISTENING_FAULTS)]
 
 

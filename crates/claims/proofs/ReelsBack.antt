@@ -1,5 +1,5 @@
--- A reel reads back: a session that writes a record keeps its words in the ledger as long as its transaction lasts, and what is due of its
--- read is those words, by demand 2.
+-- A reel reads back, an open reel without a speed marked: a session that writes a record keeps its words in the ledger as long as its
+-- transaction lasts, and what is due of its read is those words, by demand 2.
 use Prim.Native.Nat.{ℕ}
 use mathlib.Core.Path.{_≡_, refl, sym, ap, _∙_, subst}
 use mathlib.Core.Bool.{Bool, true, false, cond, not, _&&_, false≢true}
@@ -21,10 +21,12 @@ use Rattle.snapshot.specs.declared.reading.ReadAnswer.{ReadAnswer}
 use Rattle.snapshot.specs.declared.reading.ReadAnswer.the-variants.{Refused, Own, Copy, Home}
 use Rattle.snapshot.specs.declared.reading.ReadReply.{ReadReply}
 use Rattle.snapshot.specs.declared.writing.WriteAnswer.the-variants.{Refused as WriteRefused, Ok as Written}
-use Rattle.reels.specs.Reel.{wordsOf, reelFault, goodB}
+use Rattle.reels.specs.Reel.{wordsOf, goodB, packFault, packableB}
 use Rattle.reels.specs.Read.{reelRead, readReelReply}
+use Rattle.reels.specs.Unpack.{markOf}
 use Rattle.reels.specs.Write.{writeReelReply}
 use Rattle.reels.specs.declared.reel.Reel.{Reel}
+use Rattle.reels.proofs.Good.{packable-known}
 use Rattle.reels.proofs.Laws.{good-unpacks}
 use Rattle.history.specs.Call.{Listening, Begin, Read, Finish, Find, Call, begin, read, write, abandon, finish, publish, group, settle, reclaim, listen}
 use Rattle.history.specs.Desk.{find, Session, idle, active, sealed, published, Desk, upd, withSession}
@@ -33,7 +35,7 @@ use Rattle.history.specs.Ledger.{Ledger, copying, sealedWith, endedWith, ticked
 use Rattle.history.proofs.Copies.{upd-same, find-put-same, find-put-other}
 use Rattle.claims.specs.Rules.{storeRules}
 use Rattle.claims.specs.Run.{World, opened, reply, step, run}
-use Rattle.claims.specs.ReelsBack.{besidesListening, besides, allBesides, ownReel, behind, Back, SameReel, ReelsBack}
+use Rattle.claims.specs.ReelsBack.{besidesListening, besides, allBesides, ownReel, behind, Back, SameReel, ReelsBack, StoredBack}
 use Rattle.claims.proofs.Demands.{demand2}
 use Rattle.claims.proofs.SteadyCalls.{read-desk}
 use Rattle.claims.proofs.Views.{run-append}
@@ -178,19 +180,20 @@ module _ (s r : ℕ) (ws : List ℕ) where
 
 -- ---- the library
 
--- a write that the library takes is of a good reel, and the store takes its words
-written-good : (img : List ℕ) (d : StoreDesk) (s r : ℕ) (reel : Reel) → writeReelReply img d s r reel .answer ≡ Written
-    → (goodB reel ≡ true) × (writeReply img d s r (wordsOf reel) .answer ≡ Written)
+-- a write that the library takes is of a reel that may be packed, and the store takes its words
+written-packable : (img : List ℕ) (d : StoreDesk) (s r : ℕ) (reel : Reel) → writeReelReply img d s r reel .answer ≡ Written
+    → (packableB reel ≡ true) × (writeReply img d s r (wordsOf reel) .answer ≡ Written)
 unfolding writeReelReply
-written-good img d s r reel e = go (goodB reel) e
+written-packable img d s r reel e = go (packableB reel) e
   where
-    go : (b : Bool) → cond b (writeReply img d s r (wordsOf reel)) (writeSays d (WriteRefused (reelFault reel))) .answer ≡ Written
+    go : (b : Bool) → cond b (writeReply img d s r (wordsOf reel)) (writeSays d (WriteRefused (packFault reel))) .answer ≡ Written
         → (b ≡ true) × (writeReply img d s r (wordsOf reel) .answer ≡ Written)
     go true e = (refl, e)
     go false e = let w : _≡_ {A = ℕ} 0 1 = cc in absurd (omega arith)
 
--- a read that tells the session's own words of a good reel finds the reel
-told-own : (x : ReadReply) (reel : Reel) → goodB reel ≡ true → readTold (x .answer) (x .words) ≡ own (wordsOf reel) → reelRead x ≡ ownReel (x .desk) reel
+-- a read that tells the session's own words of a good reel finds the reel, with its mark or none
+told-own : (x : ReadReply) (reel : Reel) → goodB reel ≡ true → readTold (x .answer) (x .words) ≡ own (wordsOf reel)
+    → reelRead x ≡ ownReel (markOf reel) (x .desk) reel
 told-own x reel g e = let p = go (x .answer) (x .words) e in rw (p .0, p .1, good-unpacks reel g) refl
   where
     go : (a : ReadAnswer) (vs : List ℕ) → readTold a vs ≡ own (wordsOf reel) → (a ≡ Own) × (vs ≡ wordsOf reel)
@@ -208,30 +211,27 @@ module _ (img : List ℕ) (len : ℕ) (o : storeRules .opens img len .told ≡ o
       → reply storeRules (behind w s r reel calls) c .told ≡ due (recordsOf img) (sessionsOf img) (behind w s r reel calls .ledger) c .answer
   tells-due calls c = rw (run-append earlier (write s r (wordsOf reel) ∷ calls) (opened storeRules img len)) at (demand2 img len o (earlier ++ (write s r (wordsOf reel) ∷ calls)) c)
 
-  module _ (e : writeReelReply (w .image) (w .desk) s r reel .answer ≡ Written) where
-    good : goodB reel ≡ true
-    good = written-good (w .image) (w .desk) s r reel e .0
-
+  module _ (e : writeReply (w .image) (w .desk) s r (wordsOf reel) .answer ≡ Written) (good : goodB reel ≡ true) where
     -- the store tells ok of the write
     taken : reply storeRules w (write s r (wordsOf reel)) .told ≡ ok
     unfolding reply
-    taken = ap writeTold (written-good (w .image) (w .desk) s r reel e .1)
+    taken = ap writeTold e
 
     -- where the read is due the reel's words, it finds the reel
     finds : (calls : List Call)
-        → due (recordsOf img) (sessionsOf img) (behind w s r reel calls .ledger) (read s r) .answer ≡ own (wordsOf reel) → Back w s r reel calls
+        → due (recordsOf img) (sessionsOf img) (behind w s r reel calls .ledger) (read s r) .answer ≡ own (wordsOf reel) → Back w s r reel (markOf reel) calls
     unfolding reply readReelReply
     finds calls y =
         let v = behind w s r reel calls in
         told-own (readReply (v .image) (v .desk) s r) reel good (tells-due calls (read s r) ∙ y)
-        ∙ ap (λ (d : StoreDesk). ownReel d reel) (read-desk (v .image) (v .desk) s r)
+        ∙ ap (λ (d : StoreDesk). ownReel (markOf reel) d reel) (read-desk (v .image) (v .desk) s r)
 
     -- the ledger behind the write
     after-write : step storeRules w (write s r (wordsOf reel)) .ledger ≡ noted s r (wordsOf reel) (w .ledger)
     unfolding step
     after-write = ap (λ (t : Told). note (write s r (wordsOf reel)) t (w .ledger)) taken
 
-    same-reel : SameReel w s r reel
+    same-reel : SameReel w s r reel (markOf reel)
     unfolding run reply
     same-reel =
         record {
@@ -246,4 +246,11 @@ module _ (img : List ℕ) (len : ℕ) (o : storeRules .opens img len .told ≡ o
         }
 
 pub reels-back : ReelsBack
-reels-back img len o earlier s r reel e = same-reel img len o earlier s r reel e
+reels-back img len o earlier s r reel e =
+    let p = written-packable (w img len o earlier s r reel .image) (w img len o earlier s r reel .desk) s r reel e in
+    let k = packable-known reel (p .0) in
+    rw (k .1) at (same-reel img len o earlier s r reel (p .1) (k .0))
+
+pub stored-back : StoredBack
+stored-back img len o earlier s r reel e f c z =
+    rw (eq-eqb (reel .carrier) 1 c, eq-eqb (reel .speed) 0 z) at (same-reel img len o earlier s r reel e (eq-eqb _ 0 f))

@@ -1,4 +1,5 @@
--- A reel that was written and is read back in the same transaction is the same reel (document 02, Req 02).
+-- A reel that was written and is read back in the same transaction is the same reel (document 02, Req 02), and not marked; a good open
+-- reel without a speed, which the store alone can write, is read back marked (Req 07).
 use Prim.Native.Nat.{ℕ}
 use mathlib.Core.Bool.{Bool, true, false, not, _&&_}
 use mathlib.Core.Path.{_≡_}
@@ -7,13 +8,15 @@ use lib.Dec.{eqb}
 use Rattle.layout.specs.Told.{ok, isRefusal}
 use Rattle.desk.specs.declared.state.Desk.{Desk}
 use Rattle.snapshot.specs.Read.{readSaid}
+use Rattle.snapshot.specs.Write.{writeReply}
 use Rattle.snapshot.specs.declared.reading.ReadAnswer.the-variants.{Own}
 use Rattle.snapshot.specs.declared.writing.WriteAnswer.the-variants.{Ok}
-use Rattle.reels.specs.Reel.{wordsOf}
+use Rattle.reels.specs.Reel.{wordsOf, reelFault}
 use Rattle.reels.specs.Read.{readReelReply}
 use Rattle.reels.specs.Write.{writeReelReply}
 use Rattle.reels.specs.declared.reel.Reel.{Reel}
-use Rattle.reels.specs.declared.unpacking.ReelAnswer.the-variants.{Found}
+use Rattle.reels.specs.declared.unpacking.ReelAnswer.{ReelAnswer}
+use Rattle.reels.specs.declared.unpacking.ReelAnswer.the-variants.{Found, SpeedToFind}
 use Rattle.reels.specs.declared.reading.ReadReelReply.{ReadReelReply}
 use Rattle.history.specs.Call.{Listening, Begin, Read, Finish, Find, Call, begin, read, write, abandon, finish, publish, group, settle, reclaim, listen}
 use Rattle.claims.specs.Rules.{storeRules}
@@ -44,26 +47,34 @@ allBesides s r [] = true
 allBesides s r (c ∷ cs) = besides s r c && allBesides s r cs
 
 -- a read that finds the session's own reel
-abbrev pub ownReel : Desk → Reel → ReadReelReply
-ownReel d reel = record { answer = Found; source = Own; reel = reel; desk = d }
+abbrev pub ownReel : ReelAnswer → Desk → Reel → ReadReelReply
+ownReel a d reel = record { answer = a; source = Own; reel = reel; desk = d }
 
 module _ (w : World) (s r : ℕ) (reel : Reel) where
-  -- the store behind the write of the reel and further calls
+  -- the store behind the write of the reel's words and further calls
   abbrev pub behind : List Call → World
   behind calls = run storeRules (write s r (wordsOf reel) ∷ calls) w
 
-  abbrev pub Back : List Call → Type 0
-  Back calls = readReelReply (behind calls .image) (behind calls .desk) s r ≡ ownReel (behind calls .desk) reel
+  -- it is read with this answer
+  abbrev pub Back : ReelAnswer → List Call → Type 0
+  Back a calls = readReelReply (behind calls .image) (behind calls .desk) s r ≡ ownReel a (behind calls .desk) reel
 
-  pub record SameReel : Type 0 where
-    -- read at once
-    pub at-once : Back []
-    -- read behind further calls, where the store does not refuse the read
+  pub record SameReel (a : ReelAnswer) : Type 0 where
+    -- at once
+    pub at-once : Back a []
+    -- behind further calls, where the store does not refuse the read
     pub later : (calls : List Call) → allBesides s r calls ≡ true
-        → isRefusal (readSaid (behind calls .image) (behind calls .desk) s r) ≡ false → Back calls
+        → isRefusal (readSaid (behind calls .image) (behind calls .desk) s r) ≡ false → Back a calls
 
 -- from any image that opens, behind any list of calls, a reel that the library writes
 abbrev pub ReelsBack : Type 0
 ReelsBack = (img : List ℕ) (len : ℕ) → storeRules .opens img len .told ≡ ok → (earlier : List Call) (s r : ℕ) (reel : Reel)
     → let w = run storeRules earlier (opened storeRules img len) in
-    writeReelReply (w .image) (w .desk) s r reel .answer ≡ Ok → SameReel w s r reel
+    writeReelReply (w .image) (w .desk) s r reel .answer ≡ Ok → SameReel w s r reel Found
+
+-- and the words of an open reel without a speed, good to read, that the store writes
+abbrev pub StoredBack : Type 0
+StoredBack = (img : List ℕ) (len : ℕ) → storeRules .opens img len .told ≡ ok → (earlier : List Call) (s r : ℕ) (reel : Reel)
+    → let w = run storeRules earlier (opened storeRules img len) in
+    writeReply (w .image) (w .desk) s r (wordsOf reel) .answer ≡ Ok → reelFault reel ≡ 0 → reel .carrier ≡ 1 → reel .speed ≡ 0
+    → SameReel w s r reel SpeedToFind

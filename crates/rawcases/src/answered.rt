@@ -1,5 +1,5 @@
 // What a call answered, in plain numbers: the refusal's number, or 20 ok, 21 start, 22 own, 23 copy, 24 home, 25 empty, 26 sealed, 27 end,
-// 28 wait, 29 none, 30 held, 31 cleared, 32 clean, 33 replayed, 34 reel, 35 unused, 36 unknown, 37 metres, 38 found.
+// 28 wait, 29 none, 30 held, 31 cleared, 32 clean, 33 replayed, 34 reel, 35 unused, 36 unknown, 37 metres, 38 found, 39 speed to find.
 use store::Desk;
 
 // Zeros where the call has no value, words or entries; the desk that was given where it leaves none.

@@ -27,6 +27,7 @@ fn shows(a: ReelAnswer, value: u64, reel: Reel, desk: Desk) -> Answered {
         ReelAnswer::Refused(k) => gives(k, value, numbers, 0, desk),
         ReelAnswer::Unused => gives(35, value, numbers, 0, desk),
         ReelAnswer::Found => gives(34, value, numbers, 0, desk),
+        ReelAnswer::SpeedToFind => gives(39, value, numbers, 0, desk),
     }
 }
 

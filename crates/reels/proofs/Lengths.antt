@@ -6,7 +6,7 @@ use mathlib.Core.List.{List}
 use native.Mathlib.Omega.{arith}
 use native.Mathlib.Nat.{mul-le-mul-left}
 use lib.Dec.{eqb}
-use Rattle.reels.specs.Reel.{reelOf, unusedB, reelFault, goodB}
+use Rattle.reels.specs.Reel.{reelOf, unusedB, reelFault, goodB, speedlessB}
 use Rattle.reels.specs.Told.{lengthTold, refused, unknown, metres}
 use Rattle.reels.specs.Unpack.{unpackReply}
 use Rattle.reels.specs.Length.{speedAt, metresOf, goodLength, lengthOf, lengthAnswer, goodSaid, lengthSaid}
@@ -14,6 +14,7 @@ use Rattle.reels.specs.declared.reel.Reel.{Reel}
 use Rattle.reels.specs.declared.unpacking.UnpackReply.{UnpackReply}
 use Rattle.reels.specs.declared.tape.LengthAnswer.{LengthAnswer}
 use Rattle.reels.specs.declared.tape.LengthAnswer.the-variants.{Unknown, Metres}
+use Rattle.reels.proofs.Good.{speedless-known}
 use Rattle.reels.proofs.Unpacked.{unpacked}
 
 -- no speed is above code 5's
@@ -39,13 +40,14 @@ good-told r = go (eqb (r .speed) 0)
 module _ (ws : List ℕ) where
   length-told : lengthTold (lengthAnswer ws) ≡ lengthSaid ws
   unfolding lengthAnswer lengthSaid unpackReply
-  length-told = go (unusedB ws) (goodB (reelOf ws))
+  length-told = go (unusedB ws) (goodB (reelOf ws)) (speedlessB (reelOf ws)) refl
     where
-      go : (u g : Bool) → lengthTold (lengthOf (unpacked ws u g .answer) (unpacked ws u g .reel))
+      go : (u g m : Bool) → speedlessB (reelOf ws) ≡ m → lengthTold (lengthOf (unpacked ws u g m .answer) (unpacked ws u g m .reel))
           ≡ cond u unknown (cond g (goodSaid (reelOf ws)) (refused (reelFault (reelOf ws))))
-      go true g = refl
-      go false true = good-told (reelOf ws)
-      go false false = refl
+      go true g m y = refl
+      go false true true y = rw (speedless-known (reelOf ws) y .1) refl
+      go false true false y = good-told (reelOf ws)
+      go false false m y = refl
 
   -- the clauses of a length, from what the words unpack to
   pub length-tells : {x : UnpackReply} {y : LengthAnswer} → x ≡ unpackReply ws → y ≡ lengthOf (x .answer) (x .reel)

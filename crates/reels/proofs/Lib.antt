@@ -1,3 +1,4 @@
+pub mod Faults
 pub mod Good
 pub mod Unpacked
 pub mod Lengths

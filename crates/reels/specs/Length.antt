@@ -1,5 +1,5 @@
--- The tape length of a record (document 02, Req 02): seconds times speed, divided by 10,000, rounded down to metres; with code 0, an unused
--- record's too, it is "unknown"; a bad record is refused as on reading.
+-- The tape length of a record (document 02, Req 02 and 07): metres, the seconds times the speed over 10,000, the rest dropped; "unknown" with
+-- code 0, of an unused record and of one with a speed to find too; of bad words the number that a read gives.
 use Prim.Native.Nat.{ℕ, _*_, _/_}
 use mathlib.Core.Bool.{cond}
 use mathlib.Core.List.{List, [], _∷_}
@@ -10,7 +10,7 @@ use Rattle.reels.specs.Told.{ReelTold, refused, unknown, metres}
 use Rattle.reels.specs.Unpack.{unpackReply}
 use Rattle.reels.specs.declared.reel.Reel.{Reel}
 use Rattle.reels.specs.declared.unpacking.ReelAnswer.{ReelAnswer}
-use Rattle.reels.specs.declared.unpacking.ReelAnswer.the-variants.{Refused as Bad, Unused, Found}
+use Rattle.reels.specs.declared.unpacking.ReelAnswer.the-variants.{Refused as Bad, Unused, Found, SpeedToFind}
 use Rattle.reels.specs.declared.tape.LengthAnswer.{LengthAnswer}
 use Rattle.reels.specs.declared.tape.LengthAnswer.the-variants.{Refused, Unknown, Metres}
 
@@ -29,6 +29,7 @@ abbrev pub lengthOf : ReelAnswer → Reel → LengthAnswer
 lengthOf (Bad k) r = Refused k
 lengthOf Unused r = Unknown
 lengthOf Found r = goodLength r
+lengthOf SpeedToFind r = Unknown
 
 unfoldable pub lengthAnswer : List ℕ → LengthAnswer
 lengthAnswer ws = lengthOf (unpackReply ws .answer) (unpackReply ws .reel)

@@ -1,5 +1,5 @@
--- What the four words of a record mean (document 02, Req 02), and which are good: packing, unpacking, reading, writing and the tape length
--- all ask `reelFault`.
+-- What the four words of a record mean (document 02, Req 02). Which are good to read is `reelFault`: unpacking, reading and the tape length
+-- ask it. Which may be packed is `packFault`, in terms of it (Req 07): packing and writing ask that.
 use Prim.Native.Nat.{ℕ}
 use mathlib.Core.Bool.{Bool, false, _&&_, cond}
 use mathlib.Core.List.{List, [], _∷_}
@@ -28,7 +28,7 @@ noReel = reelOf zeroWords
 abbrev pub shelfB : ℕ → Bool
 shelfB n = leb 1 n && leb n 999999
 
--- carrier 1, an open reel, takes the speed codes 0 to 5; 2, a cassette, takes 0 or 1; 3, a disc, takes 0; there is no other carrier
+-- on reading, carrier 1, an open reel, takes the speed codes 0 to 5; 2, a cassette, takes 0 or 1; 3, a disc, takes 0; there is no other carrier
 abbrev pub allowedB : ℕ → ℕ → Bool
 allowedB carrier speed =
     cond (eqb carrier 1) (leb speed 5)
@@ -40,11 +40,23 @@ allowedB carrier speed =
 abbrev pub secondsB : ℕ → Bool
 secondsB t = leb t 359999
 
--- 15 shelf number out of range, 16 carrier or speed not allowed, 17 seconds out of range, checked in that order; 0 where all is right. By
--- words: 15 names word 0, 16 word 1 or word 2, 17 word 3.
+-- what is wrong first, by words: 15 names word 0, the shelf number; 16 word 1 or word 2, a carrier with a speed code; 17 word 3, the
+-- seconds; 0 where all is right
 unfoldable pub reelFault : Reel → ℕ
 reelFault r = first (unless (shelfB (r .shelf)) 15) (first (unless (allowedB (r .carrier) (r .speed)) 16) (unless (secondsB (r .seconds)) 17))
 
--- which reels, and so which words, are good
+-- which reels, and so which words, are good to read
 abbrev pub goodB : Reel → Bool
 goodB r = eqb (reelFault r) 0
+
+-- an open reel without a speed (Req 07); a good one is read as before and, it alone, marked "speed to find"
+abbrev pub speedlessB : Reel → Bool
+speedlessB r = eqb (r .carrier) 1 && eqb (r .speed) 0
+
+-- what a reel is refused by when it is packed or written: 15 as on reading; then 16, an open reel without a speed; else as on reading
+unfoldable pub packFault : Reel → ℕ
+packFault r = cond (eqb (reelFault r) 15) 15 (cond (speedlessB r) 16 (reelFault r))
+
+-- which reels may be packed
+abbrev pub packableB : Reel → Bool
+packableB r = eqb (packFault r) 0

@@ -6,16 +6,17 @@ use Rattle.reels.specs.declared.reel.Reel.{Reel}
 use Rattle.reels.specs.declared.packing.PackAnswer.{PackAnswer}
 use Rattle.reels.specs.declared.packing.PackAnswer.the-variants.{Refused as PackRefused, Packed}
 use Rattle.reels.specs.declared.unpacking.ReelAnswer.{ReelAnswer}
-use Rattle.reels.specs.declared.unpacking.ReelAnswer.the-variants.{Refused, Unused, Found}
+use Rattle.reels.specs.declared.unpacking.ReelAnswer.the-variants.{Refused, Unused, Found, SpeedToFind}
 use Rattle.reels.specs.declared.tape.LengthAnswer.{LengthAnswer}
 use Rattle.reels.specs.declared.tape.LengthAnswer.the-variants.{Refused as LengthRefused, Unknown, Metres}
 
--- "no K"; the four words of a reel; a reel, or "unused"; metres, or "unknown"
+-- "no K"; the four words of a reel; a reel, a reel with its "speed to find", or "unused"; metres, or "unknown"
 pub data ReelTold : Type 0 where
   refused : ℕ → ReelTold
   packed : List ℕ → ReelTold
   unused : ReelTold
   found : Reel → ReelTold
+  speedToFind : Reel → ReelTold
   unknown : ReelTold
   metres : ℕ → ReelTold
 
@@ -29,6 +30,7 @@ abbrev pub reelTold : ReelAnswer → Reel → ReelTold
 reelTold (Refused k) r = refused k
 reelTold Unused r = unused
 reelTold Found r = found r
+reelTold SpeedToFind r = speedToFind r
 
 abbrev pub lengthTold : LengthAnswer → ReelTold
 lengthTold (LengthRefused k) = refused k

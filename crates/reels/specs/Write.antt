@@ -1,5 +1,5 @@
--- Write through the store (document 02, Req 02): 15, 16 and 17 before any check of the store, with everything left as it was; then the
--- store's write of the four words.
+-- Write through the store (document 02, Req 02 and 07): 15, 16 and 17 before any check of the store, with everything left as it was; then
+-- the store's write of the four words.
 use Prim.Native.Nat.{ℕ}
 use mathlib.Core.Bool.{cond}
 use mathlib.Core.List.{List}
@@ -8,12 +8,12 @@ use Rattle.desk.specs.declared.state.Desk.{Desk}
 use Rattle.snapshot.specs.Write.{writeSays, writeReply, writeSaid}
 use Rattle.snapshot.specs.declared.writing.WriteAnswer.the-variants.{Refused}
 use Rattle.snapshot.specs.declared.writing.WriteReply.{WriteReply}
-use Rattle.reels.specs.Reel.{wordsOf, reelFault, goodB}
+use Rattle.reels.specs.Reel.{wordsOf, packFault, packableB}
 use Rattle.reels.specs.declared.reel.Reel.{Reel}
 
 unfoldable pub writeReelReply : List ℕ → Desk → ℕ → ℕ → Reel → WriteReply
-writeReelReply img d s r reel = cond (goodB reel) (writeReply img d s r (wordsOf reel)) (writeSays d (Refused (reelFault reel)))
+writeReelReply img d s r reel = cond (packableB reel) (writeReply img d s r (wordsOf reel)) (writeSays d (Refused (packFault reel)))
 
 -- what it tells
 unfoldable pub writeReelSaid : List ℕ → Desk → ℕ → ℕ → Reel → Told
-writeReelSaid img d s r reel = cond (goodB reel) (writeSaid img d s r) (refusal (reelFault reel))
+writeReelSaid img d s r reel = cond (packableB reel) (writeSaid img d s r) (refusal (packFault reel))

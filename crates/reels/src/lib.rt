@@ -1,5 +1,5 @@
-// Reel records (document 02, Req 02): one agreed meaning for the four words of a record. The library stands above the store and relies on its
-// contracts alone.
+// Reel records (document 02, Req 02 and 07): what the four words of a record mean to the archives. The library stands above the store and
+// relies on its contracts alone.
 mod packing;
 mod reading;
 mod reel;

@@ -1,9 +1,9 @@
-// Pack: the four words of a good reel.
+// Pack: the four words of a reel that may be packed.
 ghost use mathlib.Core.Path.{_≡_};
 ghost use Rattle.reels.specs.Pack.{packs, packReply, packSaid};
 ghost use Rattle.reels.specs.Told.{packTold};
 use crate::reel::Reel;
-use crate::reel::reel_fault;
+use crate::reel::pack_fault;
 use crate::reel::words_of;
 
 pub enum PackAnswer {
@@ -31,7 +31,7 @@ pub fn pack(reel: Reel) -> PackReply
     ensures reply { λ r. ⌜ r ≡ packReply reel ⌝ }
     ensures told { λ r. ⌜ packTold (r .answer) (r .words) ≡ packSaid reel ⌝ }
 {
-    let fault = reel_fault(reel);
+    let fault = pack_fault(reel);
     if fault != 0 {
         return packs(PackAnswer::Refused(fault), [0; 4]);
     }

@@ -1,6 +1,6 @@
-// A reel: what the four words of a record mean, and which are good.
+// A reel: what the four words of a record mean, which are good to read, and which may be packed.
 ghost use mathlib.Core.Path.{_≡_};
-ghost use Rattle.reels.specs.Reel.{reelOf, wordsOf, noReel, shelfB, allowedB, reelFault, unusedB};
+ghost use Rattle.reels.specs.Reel.{reelOf, wordsOf, noReel, shelfB, allowedB, reelFault, speedlessB, packFault, unusedB};
 
 pub struct Reel {
     pub shelf: u64,
@@ -35,7 +35,7 @@ pub fn no_reel() -> Reel
     reel_of([0; 4])
 }
 
-// Whether the carrier is known and takes the speed code.
+// Whether the carrier is known and, on reading, takes the speed code.
 fn allowed(carrier: u64, speed: u64) -> bool
     ensures { λ r. ⌜ r ≡ allowedB carrier speed ⌝ }
 {
@@ -54,7 +54,7 @@ pub fn shelved(number: u64) -> bool
     (1 <= number) & (number <= 999_999)
 }
 
-// The number that a reel is refused by; 0 where it is good.
+// The number of the first bad word of a reel; 0 where it is good to read.
 pub fn reel_fault(reel: Reel) -> u64
     ensures { λ r. ⌜ r ≡ reelFault reel ⌝ }
 {
@@ -67,6 +67,27 @@ pub fn reel_fault(reel: Reel) -> u64
         return 16;
     }
     if reel.seconds <= 359_999 { 0 } else { 17 }
+}
+
+// Whether it is an open reel without a speed.
+pub fn speedless(reel: Reel) -> bool
+    ensures { λ r. ⌜ r ≡ speedlessB reel ⌝ }
+{
+    (reel.carrier == 1) & (reel.speed == 0)
+}
+
+// The number that a reel is refused by when it is packed or written; 0 where it is taken.
+pub fn pack_fault(reel: Reel) -> u64
+    ensures { λ r. ⌜ r ≡ packFault reel ⌝ }
+{
+    let fault = reel_fault(reel);
+    if fault == 15 {
+        return 15;
+    }
+    if speedless(reel) {
+        return 16;
+    }
+    fault
 }
 
 // Whether four words are those of an unused record.

@@ -26,7 +26,7 @@ fn metres(seconds: u64, code: u64) -> u64
     seconds * SPEEDS[k] / 10_000
 }
 
-// The length of a good reel.
+// The length of a reel that is good to read.
 fn good_length(reel: Reel) -> LengthAnswer
     requires { ⌜ goodB reel ≡ true ⌝ }
     ensures { λ r. ⌜ r ≡ goodLength reel ⌝ }
@@ -49,5 +49,6 @@ pub fn tape_length(words: [u64; 4]) -> LengthAnswer
         ReelAnswer::Refused(k) => LengthAnswer::Refused(k),
         ReelAnswer::Unused => LengthAnswer::Unknown,
         ReelAnswer::Found => good_length(reel),
+        ReelAnswer::SpeedToFind => LengthAnswer::Unknown,
     }
 }

@@ -6,15 +6,18 @@ use crate::reel::Reel;
 use crate::reel::no_reel;
 use crate::reel::reel_fault;
 use crate::reel::reel_of;
+use crate::reel::speedless;
 use crate::reel::unused;
 
+// Found and SpeedToFind come with the reel; the latter marks an open reel without a speed.
 pub enum ReelAnswer {
     Refused(u64),
     Unused,
     Found,
+    SpeedToFind,
 }
 
-// Four zeros where no reel is found.
+// Four zeros where the record is unused or refused.
 pub struct UnpackReply {
     pub answer: ReelAnswer,
     pub reel: Reel,
@@ -41,6 +44,9 @@ pub fn unpack(words: [u64; 4]) -> UnpackReply
     let fault = reel_fault(reel);
     if fault != 0 {
         return unpacks(ReelAnswer::Refused(fault), no_reel());
+    }
+    if speedless(reel) {
+        return unpacks(ReelAnswer::SpeedToFind, reel);
     }
     unpacks(ReelAnswer::Found, reel)
 }

@@ -3,7 +3,7 @@ ghost use mathlib.Core.Path.{_≡_};
 ghost use Rattle.snapshot.specs.Told.{writeTold};
 ghost use Rattle.reels.specs.Write.{writeReelReply, writeReelSaid};
 use crate::reel::Reel;
-use crate::reel::reel_fault;
+use crate::reel::pack_fault;
 use crate::reel::words_of;
 use store::Desk;
 use store::WriteAnswer;
@@ -14,7 +14,7 @@ pub fn write(image: &[u64], desk: Desk, session: u64, rec: u64, reel: Reel) -> W
     ensures reply { λ r. ⌜ r ≡ writeReelReply (now (image .entry)) desk session rec reel ⌝ }
     ensures told { λ r. ⌜ writeTold (r .answer) ≡ writeReelSaid (now (image .entry)) desk session rec reel ⌝ }
 {
-    let fault = reel_fault(reel);
+    let fault = pack_fault(reel);
     if fault != 0 {
         return WriteReply {
             answer: WriteAnswer::Refused(fault),

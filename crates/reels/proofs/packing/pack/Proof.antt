@@ -5,8 +5,8 @@ use borrow.Author.Needs.{needs}
 use Rattle.reels.proofs.packing.pack.Statement.{statement}
 use Rattle.reels.proofs.packing.pack.Tie as tie
 
-reel-fault-requires : tie.Need-reel-fault-requires
-reel-fault-requires c κs = search needs
+pack-fault-requires : tie.Need-pack-fault-requires
+pack-fault-requires c κs = search needs
 
 packs-requires : tie.Need-packs-requires
 packs-requires c κs = search needs
@@ -14,7 +14,7 @@ packs-requires c κs = search needs
 returns : tie.Need-returns
 unfolding packReply packSaid
 returns c =
-    let e = (c .before .before) .reel-fault .ensures in
+    let e = (c .before .before) .pack-fault .ensures in
     let n = ne-eqb _ 0 (λ z. (c .before) .if1 .taken (e ∙ z)) in
     (rw (c .packs .ensures, e, n), rw (c .packs .ensures, e, n))
 
@@ -27,7 +27,7 @@ packs-requires-2 c κs = search needs
 returns-2 : tie.Need-returns-2
 unfolding packReply packSaid
 returns-2 c =
-    let n = eq-eqb _ 0 (sym ((c .before .before .before) .reel-fault .ensures) ∙ (c .before .before) .if1 .left) in
+    let n = eq-eqb _ 0 (sym ((c .before .before .before) .pack-fault .ensures) ∙ (c .before .before) .if1 .left) in
     let w = (c .before) .words-of .ensures in
     (rw (c .packs2 .ensures, w, n), rw (c .packs2 .ensures, w, n))
 
@@ -35,7 +35,7 @@ pub pack-spec : {M : Type 1} → statement M
 pack-spec =
     tie.close
     (tie.spec
-    reel-fault-requires
+    pack-fault-requires
     packs-requires
     returns
     words-of-requires

@@ -21,6 +21,9 @@ good-length-requires : tie.Need-good-length-requires
 good-length-requires c κs =
     let u = (c .before .before .before) .unpack .ensures .0 in rw u (found-good ((c .before .before .before .before) .args .words) (rw u at (c .enum-told2 .given .1)))
 
+enum-told-3 : tie.Need-enum-told-3
+enum-told-3 c = search needs
+
 returns : tie.Need-returns
 returns c =
     length-tells ((c .before .before .before .before .before) .args .words) ((c .before .before .before .before) .unpack .ensures .0) (rw ((c .before) .a .given .1) refl)
@@ -32,6 +35,9 @@ returns-3 : tie.Need-returns-3
 returns-3 c =
     length-tells ((c .before .before .before .before .before) .args .words) ((c .before .before .before .before) .unpack .ensures .0) (rw ((c .before) .enum-told2 .given .1) (c .good-length .ensures))
 
+returns-4 : tie.Need-returns-4
+returns-4 c = length-tells ((c .before .before .before .before) .args .words) ((c .before .before .before) .unpack .ensures .0) (rw (c .enum-told3 .given .1) refl)
+
 pub tape-length-spec : {M : Type 1} → statement M
 tape-length-spec =
     tie.close
@@ -41,6 +47,8 @@ tape-length-spec =
     enum-told
     enum-told-2
     good-length-requires
+    enum-told-3
     returns
     returns-2
-    returns-3)
+    returns-3
+    returns-4)

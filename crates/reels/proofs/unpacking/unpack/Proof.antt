@@ -1,6 +1,6 @@
 use mathlib.Core.Path.{sym, ap, _∙_}
 use borrow.Author.Tests.{eq-eqb, ne-eqb}
-use Rattle.reels.specs.Reel.{reelFault}
+use Rattle.reels.specs.Reel.{reelFault, speedlessB}
 use Rattle.reels.specs.Unpack.{unpackReply}
 use Rattle.reels.proofs.Unpacked.{unpack-tells}
 use borrow.Author.Needs.{needs}
@@ -42,16 +42,34 @@ returns-2 c =
     unpack-tells ((c .before .before .before .before .before .before .before) .args .words)
     (rw (c .unpacks2 .ensures, (c .before) .no-reel2 .ensures, u, q, ne-eqb _ 0 (λ z. (c .before .before) .if2 .taken (q ∙ z))))
 
+speedless-requires : tie.Need-speedless-requires
+speedless-requires c κs = search needs
+
 unpacks-requires-3 : tie.Need-unpacks-requires-3
 unpacks-requires-3 c κs = search needs
 
 returns-3 : tie.Need-returns-3
 unfolding unpackReply
 returns-3 c =
-    let u = sym ((c .before .before .before .before .before) .unused .ensures) ∙ (c .before .before .before .before) .if1 .left in
-    let r = (c .before .before .before) .reel-of .ensures in
-    let q = (c .before .before) .reel-fault .ensures ∙ ap reelFault r in
-    unpack-tells ((c .before .before .before .before .before .before) .args .words) (rw (c .unpacks3 .ensures, r, u, eq-eqb _ 0 (sym q ∙ (c .before) .if2 .left)))
+    let u = sym ((c .before .before .before .before .before .before .before) .unused .ensures) ∙ (c .before .before .before .before .before .before) .if1 .left in
+    let r = (c .before .before .before .before .before) .reel-of .ensures in
+    let q = (c .before .before .before .before) .reel-fault .ensures ∙ ap reelFault r in
+    let m = sym ((c .before .before) .speedless .ensures ∙ ap speedlessB r) ∙ (c .before) .if3 .taken in
+    unpack-tells ((c .before .before .before .before .before .before .before .before) .args .words)
+    (rw (c .unpacks3 .ensures, r, u, eq-eqb _ 0 (sym q ∙ (c .before .before .before) .if2 .left), m))
+
+unpacks-requires-4 : tie.Need-unpacks-requires-4
+unpacks-requires-4 c κs = search needs
+
+returns-4 : tie.Need-returns-4
+unfolding unpackReply
+returns-4 c =
+    let u = sym ((c .before .before .before .before .before .before .before) .unused .ensures) ∙ (c .before .before .before .before .before .before) .if1 .left in
+    let r = (c .before .before .before .before .before) .reel-of .ensures in
+    let q = (c .before .before .before .before) .reel-fault .ensures ∙ ap reelFault r in
+    let m = sym ((c .before .before) .speedless .ensures ∙ ap speedlessB r) ∙ (c .before) .if3 .left in
+    unpack-tells ((c .before .before .before .before .before .before .before .before) .args .words)
+    (rw (c .unpacks4 .ensures, r, u, eq-eqb _ 0 (sym q ∙ (c .before .before .before) .if2 .left), m))
 
 pub unpack-spec : {M : Type 1} → statement M
 unpack-spec =
@@ -66,5 +84,8 @@ unpack-spec =
     no-reel-requires-2
     unpacks-requires-2
     returns-2
+    speedless-requires
     unpacks-requires-3
-    returns-3)
+    returns-3
+    unpacks-requires-4
+    returns-4)
