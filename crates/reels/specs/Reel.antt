@@ -49,7 +49,7 @@ reelFault r = first (unless (shelfB (r .shelf)) 15) (first (unless (allowedB (r 
 abbrev pub goodB : Reel → Bool
 goodB r = eqb (reelFault r) 0
 
--- an open reel without a speed (Req 07); a good one is read as before and, it alone, marked "speed to find"
+-- an open reel without a speed (Req 07); where it is good to read, it is marked "speed to find", and no other reel is
 abbrev pub speedlessB : Reel → Bool
 speedlessB r = eqb (r .carrier) 1 && eqb (r .speed) 0
 
