@@ -15,7 +15,7 @@ pub both : (a b : Bool) → (a && b) ≡ true → (a ≡ true) × (b ≡ true)
 both true b e = (refl, e)
 both false b e = absurd (false≢true e)
 
-pub shelf-known : (n : ℕ) → shelfB n ≡ true → (1 ≤ n) × (n ≤ 999999)
+pub shelf-known : (n : ℕ) → shelfB n ≡ true → Shelved n
 shelf-known n e = let p = both (leb 1 n) (leb n 999999) e in (leb-true 1 n (p .0), leb-true n 999999 (p .1))
 
 -- what is not true is false

@@ -9,12 +9,12 @@ use lib.Dec.{eqb}
 use borrow.Author.Tests.{leb-true, eqb-true}
 use Rattle.layout.specs.Checks.{unless, first}
 use Rattle.reels.specs.Reel.{unusedB, shelfB, allowedB, secondsB, reelFault, goodB, speedlessB, packFault, packableB}
-use Rattle.reels.specs.Laws.{Takes}
+use Rattle.reels.specs.Laws.{Shelved, Takes}
 use Rattle.reels.specs.declared.reel.Reel.{Reel}
 use Rattle.reels.proofs.Faults.{both, denied, shelf-known, allowed-takes}
 
 pub record Good (r : Reel) : Type 0 where
-  pub shelf : (1 ≤ r .shelf) × (r .shelf ≤ 999999)
+  pub shelf : Shelved (r .shelf)
   pub speed : r .speed ≤ 5
   pub seconds : r .seconds ≤ 359999
 

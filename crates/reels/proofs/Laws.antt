@@ -25,7 +25,7 @@ use Rattle.reels.specs.declared.unpacking.ReelAnswer.the-variants.{Refus
 use Rattle.reels.specs.declared.tape.LengthAnswer.the-variants.{Metres}
 use Rattle.reels.proofs.Faults as faults
 use Rattle.reels.proofs.Good.{speedless-known, good-known, with-speed, not-unused, packable-known, good-packable}
-use Rattle.reels.proofs.Unpacked.{marked-known}
+use Rattle.reels.proofs.Unpacked.{unpack-told, marked-known}
 
 -- what is packed may be packed
 packed-packable : (r : Reel) → packReply r .answer ≡ Packed → packableB r ≡ true
@@ -70,8 +70,7 @@ bad-unpacks a b c d n used = rw (not-unused a b c d used, ne-eqb _ 0 n) refl
 
 -- a good open reel without a speed tells so
 open-said : (a d : ℕ) → goodB (reelBy a 1 0 d) ≡ true → wordsSaid (a ∷ 1 ∷ 0 ∷ d ∷ []) ≡ speedToFind (reelBy a 1 0 d)
-unfolding wordsSaid
-open-said a d g = rw (ne-eqb a 0 (λ z. omega (arith, good-known (reelBy a 1 0 d) g .shelf .0)), g) refl
+open-said a d g = sym (unpack-told (a ∷ 1 ∷ 0 ∷ d ∷ [])) ∙ rw (good-unpacks (reelBy a 1 0 d) g) refl
 
 -- the length of a good reel
 good-length : (r : Reel) → goodB r ≡ true → lengthAnswer (wordsOf r) ≡ goodLength r
@@ -122,6 +121,8 @@ reel-laws =
       unused-written = λ img d s r. refl;
       read-refused = λ img d s r k e. content-refused (readReply img d s r) k e;
       read-taken = λ img d s r n. content-taken (readReply img d s r) n;
+      source-told = λ x n ws. refl;
+      source-refused = λ k v. refl;
       refused-packed = λ r n. rw (ne-eqb (packFault r) 0 n) refl;
       taken-packed = λ r e. packable-packs r (eq-eqb _ 0 e);
       refused-written = λ img d s r reel n. rw (ne-eqb _ 0 n);

@@ -2,7 +2,9 @@
 use Prim.Native.Nat.{ℕ, _+_, _*_, _≤_, _<_}
 use mathlib.Core.Path.{_≡_}
 use mathlib.Core.Logic.{_⊎_}
+use mathlib.Core.Option.{none, some}
 use mathlib.Core.List.{List, [], _∷_}
+use Rattle.layout.specs.Told.{Result, refused as storeRefused, result}
 use Rattle.desk.specs.declared.state.Desk.{Desk}
 use Rattle.snapshot.specs.Read.{readReply}
 use Rattle.snapshot.specs.Write.{writeSays, writeReply}
@@ -12,7 +14,7 @@ use Rattle.reels.specs.Reel.{reelOf, wordsOf, reelFault, packFault}
 use Rattle.reels.specs.Told.{speedToFind}
 use Rattle.reels.specs.Pack.{packReply}
 use Rattle.reels.specs.Unpack.{unpackReply, wordsSaid}
-use Rattle.reels.specs.Read.{readReelReply}
+use Rattle.reels.specs.Read.{readReelReply, sourceTold}
 use Rattle.reels.specs.Write.{writeReelReply}
 use Rattle.reels.specs.Length.{speedAt, metresOf, lengthAnswer}
 use Rattle.reels.specs.declared.reel.Reel.{Reel}
@@ -78,6 +80,9 @@ pub record ReelLaws : Type 0 where
   pub read-taken : (img : List ℕ) (d : Desk) (s r : ℕ) → ((k : ℕ) → readReply img d s r .answer ≡ StoreRefused k → ⊥)
       → let x = readReply img d s r in let u = unpackReply (x .words) in
       readReelReply img d s r ≡ record { answer = u .answer; source = x .answer; reel = u .reel; desk = x .desk }
+  -- own, copy or home is told as it is, nothing of a refusal
+  pub source-told : (x : Result) (n : ℕ) (ws : List ℕ) → sourceTold (result x n ws) ≡ some x
+  pub source-refused : (k v : ℕ) → sourceTold (storeRefused k v) ≡ none
   -- a reel that may not be packed gives four zeros, and written it leaves all as it was, whatever is stored and whatever the store would say;
   -- any other gives its words, and its write is the store's write of them
   pub refused-packed : (r : Reel) → (packFault r ≡ 0 → ⊥) → packReply r ≡ record { answer = PackRefused (packFault r); words = 0 ∷ 0 ∷ 0 ∷ 0 ∷ [] }
