@@ -11,6 +11,7 @@ use std::io::{self, ErrorKind, Read, Write};
 const RECORDS: usize = 256;
 const SESSIONS: usize = 16;
 const COPIES: usize = 4;
+const SLOT_WORDS: usize = 22;
 const TRACE_WORDS: usize = 48;
 const FENCE: u64 = u64::MAX;
 const L: u64 = 1 << 62;
@@ -18,6 +19,10 @@ const L: u64 = 1 << 62;
 /// The header's word 3: no number above it is given. A raise puts it this far above the clock.
 const CEILING: usize = 3;
 const AHEAD: u64 = 1024;
+
+/// Word 1 of a slot: the count of copies of a full log, or this much more than the number of pairs of a short one.
+const SHORT: u64 = 16;
+const LONGEST_SHORT: u64 = SHORT + 9;
 
 type Words = [u64; 4];
 
@@ -35,7 +40,7 @@ fn home_at(record: usize) -> usize {
 
 /// Where a slot starts; its place is twice its session plus 0 or 1.
 fn slot_at(n: usize, place: usize) -> usize {
-    4 + 4 * n + 22 * place
+    4 + 4 * n + SLOT_WORDS * place
 }
 
 /// Check 1: header and length.
@@ -56,18 +61,32 @@ fn oldest(image: &[u64], n: usize, places: impl Iterator<Item = usize>) -> Optio
     logs.filter(|&(number, _)| number != 0).min()
 }
 
-/// The records that the log in a slot copies; none if its count is out of range.
-fn log_records(slot: &[u64]) -> impl Iterator<Item = u64> + '_ {
+/// The copies of a full log, each a record number and its words; none of any other log.
+fn log_copies(slot: &[u64]) -> &[[u64; 5]] {
     let count = if slot[1] <= COPIES as u64 { slot[1] as usize } else { 0 };
-    (0..count).map(|j| slot[2 + 5 * j])
+    &slot[2..].as_chunks().0[..count]
+}
+
+/// The pairs of a short log, each a home word index and its new word; none of any other log.
+fn log_pairs(slot: &[u64]) -> &[[u64; 2]] {
+    let count = if (SHORT..=LONGEST_SHORT).contains(&slot[1]) { slot[1] - SHORT } else { 0 };
+    &slot[2..].as_chunks().0[..count as usize]
+}
+
+/// The records that the log in a slot touches, one as often as it is listed; none if its word 1 is out of range.
+fn log_records(slot: &[u64]) -> impl Iterator<Item = u64> + '_ {
+    let of_pairs = log_pairs(slot).iter().map(|&[index, _]| index / 4);
+    log_copies(slot).iter().map(|copy| copy[0]).chain(of_pairs)
 }
 
 /// Check 12 of one occupied slot.
 fn sound_log(slot: &[u64], n: usize) -> bool {
-    let fresh = |(j, record)| log_records(slot).take(j).all(|earlier| earlier != record);
-    (1..=COPIES as u64).contains(&slot[1])
+    let (copies, pairs) = (log_copies(slot), log_pairs(slot));
+    let fresh = |(j, copy): (usize, &[u64; 5])| copies[..j].iter().all(|earlier| earlier[0] != copy[0]);
+    (matches!(slot[1], SHORT..=LONGEST_SHORT) || !copies.is_empty())
         && log_records(slot).all(|record| record < n as u64)
-        && log_records(slot).enumerate().all(fresh)
+        && copies.iter().enumerate().all(fresh)
+        && pairs.windows(2).all(|two| two[0][0] < two[1][0])
 }
 
 /// Check 13 of two occupied slots.
@@ -166,6 +185,25 @@ impl Session {
     fn copies(&self) -> impl Iterator<Item = (usize, &Words)> {
         let records = self.records[..self.count as usize].iter();
         records.map(|&record| record as usize).zip(&self.words)
+    }
+
+    /// The words of the copies that differ from the home records, ascending: so many pairs of home word index and
+    /// new word.
+    fn changes(&self, image: &[u64]) -> (usize, [[u64; 2]; 4 * COPIES]) {
+        // Four times the record plus the place of its copy.
+        let mut order = [0, 1, 2, 3].map(|place| 4 * self.records[place] as usize + place);
+        let order = &mut order[..self.count as usize];
+        order.sort_unstable();
+        let (mut k, mut pairs) = (0, [[0; 2]; 4 * COPIES]);
+        for &mut at in order {
+            let (record, words) = (at / 4, &self.words[at % 4]);
+            let home: &Words = image[home_at(record)..].first_chunk().expect("four words");
+            for (i, (&word, &old)) in words.iter().zip(home).enumerate() {
+                pairs[k] = [(4 * record + i) as u64, word];
+                k += (word != old) as usize;
+            }
+        }
+        (k, pairs)
     }
 
     /// The rules of phase, count, slot and number; the sessions from M up are not in use.
@@ -448,10 +486,16 @@ impl<const CHECKS: bool> Store<CHECKS> {
         }
         let (image, trace) = (&mut self.image, &mut self.trace);
         let at = slot_at(n, 2 * session + own.slot as usize);
-        trace.store(image, at + 1, own.count as u64);
-        for (j, (record, words)) in own.copies().enumerate() {
-            trace.store(image, at + 2 + 5 * j, record as u64);
-            trace.store_all(image, at + 3 + 5 * j, words);
+        let (k, pairs) = own.changes(image);
+        if 2 * k < 5 * own.count as usize {
+            trace.store(image, at + 1, SHORT + k as u64);
+            trace.store_all(image, at + 2, pairs[..k].as_flattened());
+        } else {
+            trace.store(image, at + 1, own.count as u64);
+            for (j, (record, words)) in own.copies().enumerate() {
+                trace.store(image, at + 2 + 5 * j, record as u64);
+                trace.store_all(image, at + 3 + 5 * j, words);
+            }
         }
         trace.fence();
         trace.store(image, at, clock);
@@ -512,9 +556,12 @@ impl<const CHECKS: bool> Store<CHECKS> {
         trace.entries = 0;
         let Some((number, place)) = oldest(image, n, 0..2 * m) else { return Ok(None) };
         let at = slot_at(n, place);
-        for j in 0..image[at + 1] as usize {
-            let copy: [u64; 5] = *image[at + 2 + 5 * j..].first_chunk().expect("a place");
+        let slot: [u64; SLOT_WORDS] = *image[at..].first_chunk().expect("a slot");
+        for copy in log_copies(&slot) {
             trace.store_all(image, home_at(copy[0] as usize), &copy[1..]);
+        }
+        for &[index, word] in log_pairs(&slot) {
+            trace.store(image, home_at(0) + index as usize, word);
         }
         trace.fence();
         trace.store(image, at, 0);
@@ -525,7 +572,7 @@ impl<const CHECKS: bool> Store<CHECKS> {
 
 /// Checks 12 and 13 over all slots.
 fn check_logs(slots: &[u64], n: usize) -> Result<(), u8> {
-    let logs = || slots.chunks_exact(22).filter(|slot| slot[0] != 0);
+    let logs = || slots.chunks_exact(SLOT_WORDS).filter(|slot| slot[0] != 0);
     if logs().any(|slot| !sound_log(slot, n)) {
         return Err(12);
     }
@@ -1143,6 +1190,142 @@ mod tests {
 
     fn entries<const CHECKS: bool>(store: &Store<CHECKS>) -> &[u64] {
         &store.trace.words[..2 * store.trace.entries]
+    }
+
+    /// N 12, M 2, home words 100 to 147, clock 5: session 1 is active with copies of these records, as at home.
+    fn editing(records: &[usize]) -> Store<true> {
+        let mut store = Store::new(length(12, 2));
+        store.lay(12, 2).and_then(|_| store.open()).expect("laid");
+        store.image[4..52].iter_mut().zip(100..).for_each(|(home, word)| *home = word);
+        store.desk.clock = 5;
+        store.begin(1).expect("begun");
+        for &record in records {
+            let home = *store.image[home_at(record)..].first_chunk().expect("four words");
+            store.write(1, record, &home).expect("written");
+        }
+        store
+    }
+
+    #[test]
+    fn the_form_of_every_count() {
+        for (c, k) in (1..=COPIES).flat_map(|c| (0..=4 * c).map(move |k| (c, k))) {
+            let mut store = editing(&[9, 7, 11, 0][..c]);
+            for j in 0..k {
+                store.desk.sessions[1].words[j % c][j / c] += 1000;
+            }
+            let (before, wanted) = (store.image.clone(), store.desk.sessions[1].words);
+            store.finish(1).expect("sealed");
+            let short = 2 * k < 5 * c;
+            let (word_1, entries) = if short { (16 + k, 2 * k + 4) } else { (c, 5 * c + 4) };
+            assert_eq!(store.image[slot_at(12, 2) + 1], word_1 as u64, "c {c} k {k}");
+            assert_eq!(store.trace.entries, entries, "c {c} k {k}");
+            let mut arrived = before;
+            store.trace.arrive(&mut arrived, entries);
+            assert_eq!(arrived, store.image, "c {c} k {k}");
+            assert_eq!(store.recover(), Ok(Some(5)));
+            assert_eq!(store.trace.entries, if short { k + 3 } else { 4 * c + 3 }, "c {c} k {k}");
+            for (j, &record) in [9, 7, 11, 0][..c].iter().enumerate() {
+                assert_eq!(store.image[home_at(record)..home_at(record) + 4], wanted[j], "c {c} k {k}");
+            }
+            assert_eq!(store.recover(), Ok(None));
+        }
+    }
+
+    #[test]
+    fn a_short_log_ascends_over_all_copies() {
+        let mut store = editing(&[9, 3]);
+        store.desk.sessions[1].words = [[1, 137, 2, 139], [112, 113, 3, 4], [0; 4], [0; 4]];
+        let at = slot_at(12, 2) as u64;
+        let (one, two) = ([at + 1, 20, at + 2, 14, at + 3, 3, at + 4, 15, at + 5, 4], [at + 6, 36, at + 7, 1]);
+        let rest = [at + 8, 38, at + 9, 2, FENCE, 0, at, 5, FENCE, 0];
+        store.finish(1).expect("sealed");
+        assert_eq!(entries(&store), [&one[..], &two, &rest].concat());
+        assert_eq!(store.recover(), Ok(Some(5)));
+        assert_eq!(entries(&store), [18, 3, 19, 4, 40, 1, 42, 2, FENCE, 0, at, 0, FENCE, 0]);
+    }
+
+    #[test]
+    fn a_log_of_no_pairs() {
+        let mut store = editing(&[9]);
+        let at = slot_at(12, 2) as u64;
+        store.finish(1).expect("sealed");
+        assert_eq!(entries(&store), [at + 1, 16, FENCE, 0, at, 5, FENCE, 0]);
+        assert_eq!(store.recover(), Ok(Some(5)));
+        assert_eq!(entries(&store), [FENCE, 0, at, 0, FENCE, 0]);
+    }
+
+    #[test]
+    fn settle_stores_all_four_words() {
+        let mut store = editing(&[9, 3]);
+        store.desk.sessions[1].words[1][2] = 7;
+        store.finish(1).expect("sealed");
+        store.publish(1).expect("published");
+        store.settle(1).expect("settled");
+        let (nine, three) = ([40, 136, 41, 137, 42, 138, 43, 139], [16, 112, 17, 113, 18, 7, 19, 115]);
+        assert_eq!(entries(&store), [&nine[..], &three, &[FENCE, 0]].concat());
+    }
+
+    /// What recover answers for logs in slots 0, 1, .. of an image with N 12, M 2; the slots' other words are large.
+    fn recovered(logs: &[&[u64]]) -> Result<Option<u64>, u8> {
+        let mut store = editing(&[]);
+        for (place, log) in logs.iter().enumerate() {
+            let slot = &mut store.image[slot_at(12, place)..][..SLOT_WORDS];
+            slot.fill(u64::MAX);
+            slot[..log.len()].copy_from_slice(log);
+        }
+        store.recover()
+    }
+
+    #[test]
+    fn check_12_of_short_logs() {
+        for sound in [&[3, 16][..], &[3, 17, 47, 8], &[3, 18, 0, 8, 1, 8], &[3, 18, 0, 8, 47, 8]] {
+            assert_eq!(recovered(&[sound]), Ok(Some(3)), "{sound:?}");
+        }
+        let ten: Vec<u64> = (0..10).flat_map(|j| [5 * j, 8]).collect();
+        let nine = [&[3, 25], &ten[..18]].concat();
+        assert_eq!(recovered(&[&nine]), Ok(Some(3)));
+        for word_1 in [0, 5, 6, 14, 15, 26, 27, u64::MAX] {
+            assert_eq!(recovered(&[&[0, word_1]]), Ok(None), "{word_1}");
+            assert_eq!(recovered(&[&[&[3, word_1], &ten[..]].concat()]), Err(12), "{word_1}");
+        }
+        let wrong = [
+            &[3, 17, 48, 8][..],
+            &[3, 17, u64::MAX, 8],
+            &[3, 18, 0, 8, 48, 8],
+            &[3, 18, 48, 8, 0, 8],
+            &[3, 18, 7, 8, 7, 8],
+            &[3, 18, 7, 8, 6, 8],
+            &[3, 19, 6, 8, 7, 8, 6, 8],
+        ];
+        for slot in wrong {
+            assert_eq!(recovered(&[slot]), Err(12), "{slot:?}");
+        }
+        for j in 1..9 {
+            let mut equal = nine.clone();
+            equal[2 + 2 * j] = equal[2 * j];
+            assert_eq!(recovered(&[&equal]), Err(12), "{equal:?}");
+        }
+    }
+
+    #[test]
+    fn check_13_of_both_forms() {
+        let full = |number: u64, record: u64| [number, 1, record, 8, 8, 8, 8];
+        for (index, odd) in [(11, false), (12, true), (13, true), (15, true), (16, false)] {
+            let wanted = if odd { Err(13) } else { Ok(Some(3)) };
+            let short = [3, 17, index, 8];
+            assert_eq!(recovered(&[&full(3, 3), &short]), wanted, "full, {index}");
+            assert_eq!(recovered(&[&short, &full(3, 3)]), wanted, "{index}, full");
+            assert_eq!(recovered(&[&[3, 17, 14, 8], &short]), wanted, "short, {index}");
+            assert_eq!(
+                recovered(&[&[3, 18, 1, 8, 14, 8], &[4, 16], &[3, 18, index, 8, 47, 8]]),
+                wanted,
+                "later, {index}"
+            );
+            assert_eq!(recovered(&[&full(4, 3), &short]), Ok(Some(3)), "other numbers, {index}");
+        }
+        assert_eq!(recovered(&[&full(3, 3), &full(3, 3)]), Err(13));
+        assert_eq!(recovered(&[&full(3, 3), &[3, 16], &[3, 16]]), Ok(Some(3)));
+        assert_eq!(recovered(&[&full(3, 3), &[3, 17, 12, 8], &[3, 15]]), Err(12), "12 before 13");
     }
 
     #[test]

@@ -1,10 +1,11 @@
 """Long step streams for measuring, from fixed seeds.
 
-    python3 bench/load.py N M read|write STEPS > steps
+    python3 bench/load.py N M read|write|edit STEPS > steps
 
 Sessions follow plans: begin, some reads and writes, finish, publish, settle, with reclaims of the oldest log. The
 maker follows phases, holders and logs, so that most steps are accepted; a few are not. There are no cuts. A shorter
-stream of the same kind is the start of a longer one.
+stream of the same kind is the start of a longer one. In "edit" each write changes one word: of the session's own copy
+where it has one, else of the home record, so the maker follows their words too.
 """
 
 import random
@@ -13,16 +14,17 @@ import sys
 LAY, BEGIN, READ, WRITE, FINISH, PUBLISH, SETTLE, RECLAIM, ABANDON = range(9)
 IDLE, ACTIVE, SEALED, PUBLISHED = range(4)
 
-# Of the transactions, the part that writes; reads and writes (from, to) in a plan.
-LOADS = {"read": {"writers": 0.3, "reads": (8, 24), "writes": (1, 4)},
-         "write": {"writers": 0.9, "reads": (0, 3), "writes": (2, 6)}}
+# Of the transactions, the part that writes; reads and writes (from, to) in a plan; words that a write chooses.
+LOADS = {"read": {"writers": 0.3, "reads": (8, 24), "writes": (1, 4), "words": 4},
+         "write": {"writers": 0.9, "reads": (0, 3), "writes": (2, 6), "words": 4},
+         "edit": {"writers": 0.9, "reads": (0, 3), "writes": (2, 6), "words": 1}}
 STRAY, GIVEN_UP = 0.01, 0.03
 
 
 class Session:
     def __init__(self):
         self.phase, self.number, self.slot = IDLE, 0, 0
-        self.copies, self.plan = [], []
+        self.copies, self.words, self.plan = [], {}, []
         self.logs = [0, 0]
 
     def empty_slot(self):
@@ -37,7 +39,7 @@ class Load:
         self.rng = random.Random("%d/%d/%s" % (n, m, name))
         self.n, self.load, self.clock = n, LOADS[name], 1
         self.sessions = [Session() for _ in range(m)]
-        self.holders = [None] * n
+        self.holders, self.homes = [None] * n, [bytes(32)] * n
 
     def step(self):
         """The bytes of the next step."""
@@ -66,8 +68,9 @@ class Load:
             return READ, s, record
         if self.holders[record] not in (None, s) and self.rng.random() > STRAY:
             return READ, s, record
-        self.wrote(s, own, record)
-        return (WRITE, s, record, *self.words())
+        words = self.words() if self.load["words"] == 4 else self.edited(own, record)
+        self.wrote(s, own, record, words)
+        return (WRITE, s, record, *words)
 
     def some_record(self, own):
         """An own copy, one that any session holds, or any."""
@@ -84,19 +87,31 @@ class Load:
         lengths = [self.rng.randint(1, 64) for _ in range(4)]
         return b"".join(self.rng.getrandbits(k).to_bytes(8, "little") for k in lengths)
 
-    def wrote(self, s, own, record):
+    def edited(self, own, record):
+        """What the own copy or the home record holds, with one word changed, as bytes."""
+        old = own.words.get(record, self.homes[record])
+        at, new = 8 * self.rng.randrange(4), old
+        while new == old:
+            word = self.rng.getrandbits(self.rng.randint(1, 64))
+            new = old[:at] + word.to_bytes(8, "little") + old[at + 8:]
+        return new
+
+    def wrote(self, s, own, record, words):
         if self.holders[record] not in (None, s):
-            self.drop(own)
-        elif record not in own.copies and len(own.copies) < 4:
+            return self.drop(own)
+        if record not in own.copies:
+            if len(own.copies) == 4:
+                return
             if not own.copies:
                 own.slot = own.empty_slot()
             own.copies.append(record)
             self.holders[record] = s
+        own.words[record] = words
 
     def drop(self, own):
         for record in own.copies:
             self.holders[record] = None
-        own.phase, own.copies, own.plan = IDLE, [], []
+        own.phase, own.copies, own.words, own.plan = IDLE, [], {}, []
 
     def end(self, s, own):
         if self.rng.random() < GIVEN_UP:
@@ -116,6 +131,8 @@ class Load:
         """Settles once it need not wait, and seldom before."""
         waits = any(e.phase == ACTIVE and e.number < own.number for e in self.sessions)
         if not waits:
+            for record, words in own.words.items():
+                self.homes[record] = words
             self.drop(own)
         elif self.rng.random() > STRAY:
             return None

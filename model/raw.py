@@ -11,8 +11,8 @@ A case depends on the seed and its own number (from 0) alone. The cases of the
 reel library (document 02, Req 02) are made by rawreels.py, those of the
 listening room's calls (Req 03) by rawlistening.py, those of a group's publish
 (Req 06) by rawgroup.py, those with one cause alone, of any call, by
-rawalone.py, and those of open reels without a speed (Req 07) by rawspeeds.py,
-in the same format.
+rawalone.py, those of open reels without a speed (Req 07) by rawspeeds.py, and
+those of short logs (Req 08) by rawshort.py, in the same format.
 
 INPUT. 64-bit words, lowest byte first, case after case up to the end of file:
     word  0       call: 0 lay, 1 begin, 2 read, 3 write, 4 finish, 5 publish,
@@ -1053,7 +1053,7 @@ def count(cases):
 
 def main(words, make, usage, first=0):
     """The commands of raw.py, and with other cases, numbered from first on, those of rawreels.py,
-    rawlistening.py, rawgroup.py, rawalone.py and rawspeeds.py."""
+    rawlistening.py, rawgroup.py, rawalone.py, rawspeeds.py and rawshort.py."""
     if len(words) != 3 or words[0] not in ("in", "packed", "want", "count", "show"):
         sys.exit(usage)
     seed, number = int(words[1]), int(words[2])

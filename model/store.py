@@ -1,4 +1,4 @@
-"""Reference model of the two-copy record store (document 01, and Req 01, Req 05 and Req 06 of document 02).
+"""Reference model of the two-copy record store (document 01, and Req 01, Req 05, Req 06 and Req 08 of document 02).
 
 An image is a list of 64-bit words, a desk is a dictionary, a trace (the document's strip) is given
 by its length in words. No call alters what it is given. Each call returns a
@@ -10,6 +10,8 @@ L = 2 ** 62
 FENCE = (2 ** 64 - 1, 0)
 TRACE_WORDS = 48
 RAISE = 1024  # how far a raise of header word 3 goes past the new clock
+SHORT = 16  # word 1 of a short log is this plus its number of pairs, at most 9
+MOST_PAIRS = 9
 ZEROS = [0, 0, 0, 0]
 
 
@@ -67,6 +69,16 @@ def home(image, record):
     return image[home_at(record):home_at(record) + 4]
 
 
+def word_at(index):
+    """Index in the image of the home word with this index, 0 to 4N - 1."""
+    return home_at(0) + index
+
+
+def record_of(at):
+    """The record whose home words have this index in the image."""
+    return (at - home_at(0)) // 4
+
+
 def slot_at(n, place):
     """Index of a slot's first word; its place is twice the session plus 0 or 1."""
     return 4 + 4 * n + 22 * place
@@ -83,8 +95,13 @@ def occupied(image):
 
 
 def log_count(image, place):
-    """Word 1 of a slot is the count of copies."""
+    """Word 1 of a slot is the count of copies, or 16 + k of a short log."""
     return image[slot_at(image[1], place) + 1]
+
+
+def is_short(image, place):
+    """Word 1 is 16 + k, k from 0 to 9 (document 02, Req 08)."""
+    return SHORT <= log_count(image, place) <= SHORT + MOST_PAIRS
 
 
 def log_copies(image, place):
@@ -92,6 +109,25 @@ def log_copies(image, place):
     first = slot_at(image[1], place) + 2
     starts = [first + 5 * i for i in range(log_count(image, place))]
     return [[image[at], image[at + 1:at + 5]] for at in starts]
+
+
+def log_pairs(image, place):
+    """The k pairs of a short log: home word index, new word."""
+    first = slot_at(image[1], place) + 2
+    starts = [first + 2 * i for i in range(log_count(image, place) - SHORT)]
+    return [(image[at], image[at + 1]) for at in starts]
+
+
+def log_stores(image, place):
+    """What a log of either form denotes: stores to home words, in its order."""
+    if is_short(image, place):
+        return [(word_at(index), word) for index, word in log_pairs(image, place)]
+    return to_home(log_copies(image, place))
+
+
+def log_records(image, place):
+    """The records that a log of either form touches."""
+    return {record_of(index) for index, _ in log_stores(image, place)}
 
 
 # ---- stores and fences ---------------------------------------------------
@@ -421,18 +457,27 @@ def finish(image, desk, trace, session):
     if number >= L:  # finish with copies, clock at L or more
         return result(no(10), desk, image)
     at = slot_at(desk["N"], 2 * session + own["slot"])
-    entries = log_body(at, copies_of(own)) + [FENCE, (at, number), FENCE]
+    entries = log_body(at, image, copies_of(own)) + [FENCE, (at, number), FENCE]
     return result(said("sealed", number), with_phase(desk, session, "sealed", number),
                   image, entries)
 
 
-def log_body(at, copies):
-    """Count and copies, 1 + 5c words, for the slot whose first word is at."""
-    entries = [(at + 1, len(copies))]
-    for i, (record, words) in enumerate(copies):
-        place = at + 2 + 5 * i
-        entries += [(place + j, word) for j, word in enumerate([record] + words)]
-    return entries
+def log_body(at, image, copies):
+    """The log from word 1 on, for the slot whose first word is at: the short form
+    where 2k is less than 5c, 1 + 2k words; else count and copies, 1 + 5c words."""
+    pairs = differing(image, copies)
+    if 2 * len(pairs) < 5 * len(copies):
+        words = [SHORT + len(pairs)] + [word for pair in pairs for word in pair]
+    else:
+        words = [len(copies)] + [word for record, four in copies for word in [record] + four]
+    return [(at + 1 + i, word) for i, word in enumerate(words)]
+
+
+def differing(image, copies):
+    """Home word index and new word, for each word of the copies that differs from
+    the home record, in ascending index."""
+    stores = [(at, word) for at, word in to_home(copies) if image[at] != word]
+    return sorted((at - word_at(0), word) for at, word in stores)
 
 
 def publish(image, desk, trace, session):
@@ -531,8 +576,13 @@ def reclaimable(image, desk, session):
 # ---- recover -------------------------------------------------------------
 
 def damaged(image, place):
-    """Count 0 or above 4, a record at or above N, or a record twice; places
-    past the count are not looked at."""
+    """Word 1 is 0, 5 to 15 or above 25, or what it counts is wrong: in a full log
+    a record at or above N or a record twice, in a short one an index at or
+    above 4N or indexes that don't ascend. Nothing past that is looked at."""
+    if is_short(image, place):
+        indexes = [index for index, _ in log_pairs(image, place)]
+        rise = all(one < other for one, other in zip(indexes, indexes[1:]))
+        return not rise or any(index >= 4 * image[1] for index in indexes)
     if not 1 <= log_count(image, place) <= 4:
         return True
     records = [record for record, _ in log_copies(image, place)]
@@ -540,11 +590,10 @@ def damaged(image, place):
 
 
 def at_odds(image, one, other):
-    """Equal persist numbers, a record in common."""
+    """Equal persist numbers, a record that both touch."""
     if persist(image, one) != persist(image, other):
         return False
-    records = [{record for record, _ in log_copies(image, p)} for p in (one, other)]
-    return bool(records[0] & records[1])
+    return bool(log_records(image, one) & log_records(image, other))
 
 
 def recover(image, trace):
@@ -564,5 +613,5 @@ def recover(image, trace):
         return result(said("clean"), image=image)
     place = min(places, key=lambda p: (persist(image, p), p))
     clear = (slot_at(image[1], place), 0)
-    entries = to_home(log_copies(image, place)) + [FENCE, clear, FENCE]
+    entries = log_stores(image, place) + [FENCE, clear, FENCE]
     return result(said("replayed", persist(image, place)), image=image, entries=entries)

@@ -19,6 +19,7 @@ import rawalone  # noqa: E402
 import rawgroup  # noqa: E402
 import rawlistening  # noqa: E402
 import rawreels  # noqa: E402
+import rawshort  # noqa: E402
 import rawspeeds  # noqa: E402
 import reelwalk  # noqa: E402
 import streams  # noqa: E402
@@ -29,8 +30,8 @@ SEEDS.update({"long": 6, "ceiling": 4, "openings": 6, "cuts_publish": 6})
 RAW_SEED = 1
 # What makes the raw cases, each from this number on; of all but the first it is one round.
 RAW_MAKERS = [(0, raw), (rawreels.FIRST, rawreels), (rawlistening.FIRST, rawlistening), (rawgroup.FIRST, rawgroup),
-              (rawalone.FIRST, rawalone), (rawspeeds.FIRST, rawspeeds)]
-RAW_CASES = rawspeeds.FIRST + len(rawspeeds.TURNS)
+              (rawalone.FIRST, rawalone), (rawspeeds.FIRST, rawspeeds), (rawshort.FIRST, rawshort)]
+RAW_CASES = rawshort.FIRST + len(rawshort.TURNS)
 
 
 def schedule(kind_and_seed):

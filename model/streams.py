@@ -15,6 +15,7 @@ import sys
 from collections import Counter
 
 import reelwalk
+import store
 
 SIZES = [(1, 1), (1, 2), (2, 1), (2, 2), (3, 2), (5, 1), (6, 3), (8, 4),
          (16, 16), (40, 7), (255, 15), (256, 1), (1, 16), (256, 16)]
@@ -488,19 +489,103 @@ def noise(rng):
     return out
 
 
+# ---- small edits (document 02, Req 08) -----------------------------------
+
+class Editor(Maker):
+    """Its writes change so many words of a record, mostly one or two, and keep the others."""
+
+    def __init__(self, rng, n, m, changed=(0, 1, 1, 1, 1, 2, 2, 3, 4), **options):
+        self.changed = changed
+        super().__init__(rng, n, m, **options)
+
+    def body(self, kind, session, record):
+        if kind != WRITE or record >= self.n:
+            return super().body(kind, session, record)
+        spots = self.rng.sample(range(4), self.rng.choice(self.changed))
+        held = self.walk.desk["marks"][record] == session and self.rng.random() < 0.5
+        own = {r: words for r, words in store.copies_of(self.walk.desk["sessions"][session])} if held else {}
+        return self.edit(session, record, spots, own.get(record))
+
+    def edit(self, session, record, spots, words=None):
+        """A write of the home words, or of these, with those at these spots changed."""
+        words = list(words or store.home(self.walk.image, record))
+        for spot in spots:
+            words[spot] = self.rng.choice([words[spot] ^ 2 ** self.rng.randrange(64), (words[spot] + 1) % 2 ** 64,
+                                           self.rng.getrandbits(64)])
+        return [WRITE, session, record, *b"".join(word.to_bytes(8, "little") for word in words)]
+
+    def edited(self, session, records, k):
+        """An active transaction with these records written, in which k words differ from home; at times a record is
+        written twice, all of its words other at first."""
+        self.do(BEGIN, session)
+        spots = self.rng.sample(range(4 * len(records)), k)
+        for place, record in enumerate(records):
+            if self.rng.random() < 0.3:
+                self.do(*self.edit(session, record, range(4)))
+        for place, record in self.rng.sample(list(enumerate(records)), len(records)):
+            self.do(*self.edit(session, record, [spot % 4 for spot in spots if spot // 4 == place]))
+
+
+def edits(rng):
+    """Records edited by a word or two, everything in proportion."""
+    maker = Editor(rng, *rng.choice([(1, 1), (2, 2), (6, 3), (8, 4), (40, 7), (256, 16)]), hot=rng.choice([0, 0.3, 0.8]),
+                   cut=rng.choice([0.01, 0.08]))
+    maker.go(400)
+    return maker.bytes
+
+
+# Copies and words that differ: each that gives a short log, the first full one, and all words.
+EDITS = [(1, k) for k in (0, 1, 2, 3, 4)] + [(2, k) for k in (0, 1, 2, 3, 4, 5, 8)] + [
+    (3, k) for k in (0, 1, 2, 3, 4, 5, 6, 7, 8, 12)] + [(4, k) for k in (0, 1, 2, 3, 4, 5, 6, 7, 8, 9, 10, 16)]
+EDIT_WAYS = 14
+
+
+def cuts_edits(rng, way=None):
+    """Finish of small edits and of large ones, cut at every count of entries and one past the last."""
+    way = rng.randrange(EDIT_WAYS) if way is None else way
+    maker = Editor(rng, rng.choice([4, 20, 256]), rng.choice([1, 4, 16]))
+    for copies, k in EDITS[way::EDIT_WAYS]:
+        entries = 2 * k + 4 if 2 * k < 5 * copies else 5 * copies + 4
+        for cut in range(entries + 2):
+            records = rng.sample(range(maker.n), copies)
+            with_others(maker, rng, records)
+            maker.edited(0, records, k)
+            maker.do(CUT, cut)
+            maker.do(FINISH, 0)
+            maker.look(0, records)
+    return maker.bytes
+
+
+def equal_words(rng):
+    """Writes of the words that are there, mostly: logs without a pair, cut in finish, settle and reclaim."""
+    maker = Editor(rng, rng.choice([1, 4, 20, 256]), rng.choice([1, 3, 16]), changed=(0, 0, 0, 0, 1, 4))
+    for kind, ready in ((FINISH, "active"), (SETTLE, "published"), (RECLAIM, "settled")):
+        for cut in [*range(6), rng.randrange(26), 255]:
+            records = rng.sample(range(maker.n), rng.randrange(1, 1 + min(4, maker.n)))
+            maker.to_phase(0, records, ready)
+            with_others(maker, rng, records)
+            maker.do(CUT, cut)
+            maker.do(kind, 0)
+            maker.look(0, records)
+    maker.go(150)
+    return maker.bytes
+
+
 KINDS = {f.__name__: f for f in (
     mix, hot, cold, small, large, long, stray, restless, cuts_finish, cuts_settle,
     cuts_reclaim, cuts_publish, cuts_idle, every_answer, readers, openings, ceiling, sizes_refused,
-    damaged, noise)}
+    damaged, noise, edits, cuts_edits, equal_words)}
 
 
 def stream(kind, seed):
-    """The bytes of one stream; the endings and the ways of ceiling go round by seed."""
+    """The bytes of one stream; the endings, the ways of ceiling and those of cuts_edits go round by seed."""
     rng = random.Random("%s/%d" % (kind, seed))
     if kind == "damaged":
         return bytes(damaged(rng, seed % ENDINGS))
     if kind == "ceiling":
         return bytes(ceiling(rng, seed % CEILING_WAYS))
+    if kind == "cuts_edits":
+        return bytes(cuts_edits(rng, seed % EDIT_WAYS))
     return bytes(KINDS[kind](rng))
 
 

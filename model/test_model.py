@@ -20,6 +20,7 @@ import rawalone
 import rawgroup
 import rawlistening
 import rawreels
+import rawshort
 import rawspeeds
 import reels
 import reelwalk
@@ -119,17 +120,26 @@ class Book:
 
 # ---- answers foreseen without image or desk ------------------------------
 
+LAST_SHORT = {1: 2, 2: 4, 3: 7, 4: 9}  # by hand, for each number of copies: the most words that differ in a short log
+
+
+def entries_of_finish(copies, differ):
+    """By hand: the number of entries of a finish with copies."""
+    return 4 + 2 * differ if differ <= LAST_SHORT[copies] else {1: 9, 2: 14, 3: 19, 4: 24}[copies]
+
+
 class Foresight:
-    """Phases, copied records, occupied slots, clock and ceiling, kept from the calls alone."""
+    """Phases, copies, home records, occupied slots, clock and ceiling, kept from the calls alone."""
 
     NEED = {"begin": "idle", "read": "active", "write": "active", "abandon": "active",
             "finish": "active", "publish": "sealed", "settle": "published"}
 
-    def __init__(self, n, m, word_3=0):
+    def __init__(self, n, m, word_3, homes):
         self.n, self.m, self.clock = n, m, word_3 + 1  # of an image opened with this in header word 3
+        self.homes = [list(words) for words in homes]
         self.ceiling = self.clock + 1024
         self.phase, self.at = ["idle"] * m, [0] * m  # at: start, persist or end
-        self.mine = [[] for _ in range(m)]           # records copied
+        self.mine = [{} for _ in range(m)]           # records copied, with their words
         self.slot = [None] * m
         self.logs = {}                               # place: persist number
 
@@ -144,16 +154,16 @@ class Foresight:
             return 5
         return 6 if call in self.NEED and self.phase[session] != self.NEED[call] else 0
 
-    def step(self, call, session, record):
+    def step(self, call, session, record, words=None):
         """(name or refusal number, value, number of entries) of a call."""
-        number = self.refusal(call, session, record)
+        number, self.words = self.refusal(call, session, record), words
         return (number, 0, 0) if number else getattr(self, call.replace(" ", "_"))(session, record)
 
     def holder(self, record):
         return [s for s in range(self.m) if record in self.mine[s]]
 
     def drop(self, session):
-        self.phase[session], self.mine[session], self.slot[session] = "idle", [], None
+        self.phase[session], self.mine[session], self.slot[session] = "idle", {}, None
 
     def begin(self, session, record):
         self.phase[session], self.at[session] = "active", self.clock
@@ -169,6 +179,7 @@ class Foresight:
 
     def write(self, session, record):
         if record in self.mine[session]:
+            self.mine[session][record] = self.words
             return ("ok", 0, 0)
         if self.holder(record):
             self.drop(session)
@@ -180,7 +191,7 @@ class Foresight:
             if not free:
                 return (9, 0, 0)
             self.slot[session] = free[0]
-        self.mine[session].append(record)
+        self.mine[session][record] = self.words
         return ("ok", 0, 0)
 
     def abandon(self, session, record):
@@ -196,7 +207,12 @@ class Foresight:
             return (10, 0, 0)
         self.phase[session], self.at[session] = "sealed", self.clock
         self.logs[2 * session + self.slot[session]] = self.clock
-        return ("sealed", self.clock, 5 * copies + 4)
+        return ("sealed", self.clock, entries_of_finish(copies, self.differ(session)))
+
+    def differ(self, session):
+        """How many words of the session's copies are not those of the home records."""
+        return sum(one != other for record, words in self.mine[session].items()
+                   for one, other in zip(words, self.homes[record]))
 
     def publish(self, session, record):
         return self.publish_group(2 ** session, record)
@@ -217,6 +233,8 @@ class Foresight:
                 if (self.phase[other], self.at[other]) == ("active", start) and start < self.at[session]:
                     return ("wait", other, 0)
         copies = len(self.mine[session])
+        for record, words in self.mine[session].items():
+            self.homes[record] = words
         self.drop(session)
         return ("ok", 0, 4 * copies + 1)
 
@@ -247,6 +265,7 @@ class Trial:
         self.image[3] = rng.choice([0, 0, 1025, rng.randrange(10 ** 6)]) if word_3 is None else word_3
         self.lazy = rng.random()  # how seldom logs are reclaimed
         self.groups, self.waits = rng.choice([0, 0.5, 0.9]), 0.8  # how often a publish is not single, and waits
+        self.forms = Counter()  # logs by form: sealed, cut, replayed
         self.opened()
 
     def scribbled(self, image):
@@ -265,7 +284,7 @@ class Trial:
         self.memory.take(done["entries"])
         self.image, self.desk = done["image"], done["desk"]
         self.book = Book(self.homes())
-        self.foresight = Foresight(self.n, self.m, word_3)
+        self.foresight = Foresight(self.n, self.m, word_3, self.homes())
         self.pass_by()
 
     def pass_by(self):
@@ -315,7 +334,16 @@ class Trial:
             session = rng.choice([self.m, 16, TOP])
         if rng.random() < 0.02:
             record = rng.choice([self.n, 256, TOP])
-        return call, session, record, [rng.randrange(1, 10 ** 6) for _ in range(4)]
+        return call, session, record, self.edited(session, record)
+
+    def edited(self, session, record):
+        """Four new words, or some, the others as they are at home or in the own copy."""
+        rng, new = self.rng, [self.rng.randrange(1, 10 ** 6) for _ in range(4)]
+        if session >= self.m or record >= self.n or rng.random() < 0.3:
+            return new
+        home = self.foresight.homes[record]
+        kept, share = rng.choice([home, self.foresight.mine[session].get(record, home)]), rng.choice([0, 0.25, 0.25, 0.6])
+        return [one if rng.random() < share else other for one, other in zip(new, kept)]
 
     def made(self, call, session, record, words):
         """The call's result, with nothing taken over."""
@@ -330,9 +358,16 @@ class Trial:
 
     def take(self, step, done):
         """Takes over desk and image and feeds the book and the memory."""
+        if step[0] == "finish" and done["answer"]["name"] == "sealed":
+            self.forms["sealed " + form_of(done["entries"][0][1])] += 1
         self.image, self.desk = done["image"], done["desk"]
         self.book.feed(*step, done["answer"])
         self.memory.take(done["entries"])
+
+
+def form_of(count):
+    """The form of a log by its word 1."""
+    return "short" if count >= 16 else "full"
 
 
 def groups(entries):
@@ -405,7 +440,7 @@ def edges(st):
         same(answer_of(st.finish(laid(st), desk, 48, 0)), wanted, "G")
     same(answer_of(st.finish(laid(st), st.begin(st.new_desk(L, 2, 2), 0)["desk"], 48, 0)),
          ("empty", 0), "G empty")
-    # H: one copy, 7 entries arrive: no log to replay. I: 8 arrive: replayed.
+    # H: one copy that differs in all four words, 7 entries arrive: no log to replay. I: 8 arrive: replayed.
     desk = st.write(laid(st), st.begin(st.new_desk(1, 2, 2), 0)["desk"], 0, 1, [5, 6, 7, 8])["desk"]
     entries = st.finish(laid(st), desk, 48, 0)["entries"]
     same(entries, [(13, 1), (14, 1), (15, 5), (16, 6), (17, 7), (18, 8), FENCE, (12, 1), FENCE],
@@ -515,10 +550,19 @@ def program_lines(st):
     same(lines("000202 00"), ["1 lay 2 2 ok", "2 bad"], "later step 0")
     same(lines("000202 030001"), ["1 lay 2 2 ok", "2 bad"], "short write")
     head = "000202 0100 030001" + five
-    for k, log in ((0, 0), (7, 0), (8, 1), (9, 1), (255, 1)):
+    for k, log in ((0, 0), (4, 0), (5, 1), (6, 1), (255, 1)):  # one word differs
         same(lines(head + "0963 09%02x 0400 0100 020001" % k)[3:],
              ["4 cut 99", "5 cut %d" % k, "6 finish 0 cut"] + ["6 replayed 1"] * log
              + ["6 open", "7 begin 0 start 1026", "8 read 0 1 %d 0 0 0 home" % (5 * log)], "cut")
+    for k, log in ((0, 0), (7, 0), (8, 1), (9, 1), (255, 1)):  # all four differ
+        same(lines("000202 0100 030001" + ("05" + "00" * 7) * 4 + "09%02x 0400 0100 020001" % k)[3:],
+             ["4 cut %d" % k, "5 finish 0 cut"] + ["5 replayed 1"] * log
+             + ["5 open", "6 begin 0 start 1026", "7 read 0 1%s home" % (" %d" % (5 * log) * 4)], "cut of a full log")
+    same(lines("000202 0100 030001" + "00" * 32 + "0902 0400 0100 030001" + "00" * 32 + "0903 0400 0100 030001"
+               + "00" * 32 + "0400 0500")[3:],
+         ["4 cut 2", "5 finish 0 cut", "5 open", "6 begin 0 start 1026", "7 write 0 1 ok", "8 cut 3", "9 finish 0 cut",
+          "9 replayed 1026", "9 open", "10 begin 0 start 2051", "11 write 0 1 ok", "12 finish 0 sealed 2051",
+          "13 publish 0 end 2052"], "no word differs")
     same(lines("000202 0903 0100 0405 0200ff")[1:],
          ["2 cut 3", "3 begin 0 start 1", "4 finish 5 no 4", "4 open", "5 read 0 255 no 5"],
          "cut of a refused step")
@@ -542,7 +586,7 @@ def answers(st):
         for _ in range(360 if big else 120):
             step = trial.choose()
             done = trial.made(*step)
-            wanted = trial.foresight.step(*step[:3])
+            wanted = trial.foresight.step(*step)
             same((*answer_of(done), len(done["entries"])), wanted, "%s in run %d" % (step[0], run))
             same(done["image"][3], trial.foresight.ceiling, "word 3 after %s in run %d" % (step[0], run))
             check_shape(st, trial, step, done)
@@ -596,7 +640,7 @@ def reads(st):
                     same(words, book.shared(session, record), "%s words in run %d" % (name, run))
                 same(words, book.view(session)[record], "view in run %d" % run)
             loads += step[0] == GROUP and name == "end"
-            trial.foresight.step(*step[:3])
+            trial.foresight.step(*step)
             trial.take(step, done)
     if min(*seen.values(), loads) < 100 * SHARE:
         raise AssertionError("too few reads of a kind or groups: %s, %d" % (seen, loads))
@@ -634,8 +678,8 @@ def slots_occupied(image):
 
 
 def crashes(st):
-    """Demand 3: cut in a random call, recovered with cuts, compared with the book."""
-    cuts = replays = 0
+    """Demand 3: cut in a random call, recovered with cuts, compared with the book; logs of both forms."""
+    cuts, replays, forms = 0, 0, Counter()
     for run in range(int(700 * SHARE)):
         rng = random.Random("crashes/%d" % run)
         trial = Trial(st, rng)
@@ -643,7 +687,7 @@ def crashes(st):
             for _ in range(rng.randrange(5, 70)):
                 step = trial.choose()
                 done = trial.made(*step)
-                trial.foresight.step(*step[:3])
+                trial.foresight.step(*step)
                 trial.take(step, done)
             cut_call(trial, rng)
             times = recovered(st, trial, rng, run)
@@ -651,7 +695,12 @@ def crashes(st):
             same(trial.homes(), trial.book.records(), "records in run %d" % run)
             same(slots_occupied(trial.image), 0, "slots in run %d" % run)
             trial.opened()
-    return "%d cuts, %d recover calls that replayed" % (cuts, replays)
+        forms += trial.forms
+    wanted = {"sealed": 900, "cut": 70, "replayed": 400, "replayed and cut": 100}
+    few = [name for name in wanted for form in ("short", "full") if forms["%s %s" % (name, form)] < wanted[name] * SHARE]
+    same(few, [], "too few logs of a form")
+    return "%d cuts, %d recover calls that replayed; logs: %s" % (
+        cuts, replays, ", ".join("%s %d" % part for part in sorted(forms.items())))
 
 
 def cut_at(rng, entries):
@@ -668,6 +717,8 @@ def cut_call(trial, rng):
         if done["entries"]:
             memory.take(done["entries"][:cut_at(rng, done["entries"])])
             image = memory.cut(rng)
+            if step[0] == "finish":
+                trial.forms["cut " + form_of(done["entries"][0][1])] += 1
             if step[0] == "finish" and slots_occupied(image) > slots_occupied(trial.image):
                 trial.book.seal(step[1])
             trial.image = image
@@ -687,6 +738,7 @@ def recovered(st, trial, rng, run):
         same(done["entries"][-1:], [FENCE], "last entry")
         memory, entries = Memory(trial.image), done["entries"]
         cut = rng.random() < share
+        trial.forms[("replayed and cut " if cut else "replayed ") + form_of(trial.image[entries[-2][0] + 1])] += 1
         memory.take(entries[:cut_at(rng, entries)] if cut else entries)
         trial.image = memory.cut(rng) if cut else memory.after(memory.loose)
     raise AssertionError("recovery without end in run %d" % run)
@@ -876,7 +928,7 @@ def life(trial, rng, given):
             trial.memory.take(done["entries"][:rng.randrange(3)])
             trial.image = trial.memory.cut(rng)
             return "a raise" if step[0] == "publish" else "a group's raise"
-        trial.foresight.step(*step[:3])
+        trial.foresight.step(*step)
         trial.take(step, done)
         if done["answer"]["name"] in ("start", "end"):
             given.add(done["answer"]["value"])
@@ -1203,7 +1255,7 @@ def group_ends(st):
         for _ in range(150):
             step = trial.choose()
             done = trial.made(*step)
-            trial.foresight.step(*step[:3])
+            trial.foresight.step(*step)
             trial.take(step, done)
         same(overlaps(trial.book), [], "records of one end in run %d" % run)
         shared += sum(len(drafts) > 1 for drafts in trial.book.together().values())
@@ -1218,7 +1270,7 @@ def group_step(st, trial, seen, what):
     done = trial.made(*step)
     call, session, record, _ = step
     answer, words = answer_of(done), done["answer"]["words"]
-    same((*answer, len(done["entries"])), trial.foresight.step(*step[:3]), "%s %s" % (call, what))
+    same((*answer, len(done["entries"])), trial.foresight.step(*step), "%s %s" % (call, what))
     check_shape(st, trial, step, done)
     if answer[0] in ("copy", "home"):
         same(words, trial.book.shared(session, record), "words of %s %s" % (answer[0], what))
@@ -1270,6 +1322,229 @@ def group_runs(st):
     few = [name for name, least in wanted.items() if seen[name] < least * SHARE]
     same(few, [], "too few of")
     return ", ".join("%s %d" % part for part in sorted(seen.items()))
+
+
+# ---- short logs (document 02, Req 08) --------------------------------------
+
+def edited_copies(image, records, spots):
+    """Copies of these records; at these spots, 4 times the place plus the word, a word is 1 above home."""
+    return [[record, [image[4 + 4 * record + i] + (4 * place + i in spots) for i in range(4)]]
+            for place, record in enumerate(records)]
+
+
+def writer(st, n, copies, clock=5, m=2):
+    """A desk on which session 1 is active with these copies, for its slot 1."""
+    desk = st.new_desk(clock, n, m)
+    desk["sessions"][1] = st.entry("active", 1, copies, 1)
+    for record, _ in copies:
+        desk["marks"][record] = 1
+    return desk
+
+
+def numbered(st, n, m=2):
+    """A laid image whose home words are their indexes plus 500."""
+    image = laid(st, n, m)
+    return image[:4] + [500 + index for index in range(4 * n)] + image[4 + 4 * n:]
+
+
+def finish_wanted(image, copies, at, number):
+    """What a finish stores, by a comparison of all home words before and after a settle."""
+    after, n = list(image), image[1]
+    for record, words in copies:
+        after[4 + 4 * record:8 + 4 * record] = words
+    pairs = [[index, after[4 + index]] for index in range(4 * n) if after[4 + index] != image[4 + index]]
+    body = [16 + len(pairs)] + sum(pairs, [])
+    if len(pairs) > LAST_SHORT[len(copies)]:
+        body = [len(copies)] + sum(([record] + words for record, words in copies), [])
+    return list(zip(range(at + 1, at + 22), body)) + [FENCE, (at, number), FENCE]
+
+
+def replay_wanted(image):
+    """What a recover of sound logs stores: the slot with the smallest number, its words read by hand."""
+    first = 4 + 4 * image[1]
+    at = min((at for at in range(first, len(image), 22) if image[at]), key=lambda at: (image[at], at))
+    count, body = image[at + 1], image[at + 2:at + 22]
+    if count >= 16:
+        stores = [(4 + index, word) for index, word in list(zip(body[::2], body[1::2]))[:count - 16]]
+    else:
+        stores = [(4 + 4 * body[5 * c] + i, body[5 * c + 1 + i]) for c in range(count) for i in range(4)]
+    return stores + [FENCE, (at, 0), FENCE]
+
+
+def short_finishes(st):
+    """The entries of finish: in numbers with no, one, two and nine words that differ, and on both sides of each step."""
+    image, at = numbered(st, 8), 4 + 32 + 66  # home words 500 to 531; slot 1 of session 1
+    def stored(records, spots):
+        done = st.finish(image, writer(st, 8, edited_copies(image, records, spots)), 48, 1)
+        same((answer_of(done), done["desk"]["sessions"][1]["phase"]), (("sealed", 5), "sealed"), "finish")
+        return done["entries"]
+    end = [FENCE, (102, 5), FENCE]
+    same(stored([3], []), [(103, 16)] + end, "one copy, no word")
+    same(stored([3, 0, 7, 1], []), [(103, 16)] + end, "four copies, no word")
+    same(stored([3], [2]), [(103, 17), (104, 14), (105, 515)] + end, "one copy, one word")
+    same(stored([0], [0]), [(103, 17), (104, 0), (105, 501)] + end, "the first home word")
+    same(stored([7], [3]), [(103, 17), (104, 31), (105, 532)] + end, "the last home word")
+    same(stored([6, 2], [1, 7]), [(103, 18), (104, 11), (105, 512), (106, 25), (107, 526)] + end, "two copies, two words")
+    same(stored([3], [1, 2, 3]), [(103, 1), (104, 3), (105, 512), (106, 514), (107, 515), (108, 516)] + end, "three words")
+    same(stored([7, 1, 4, 0], [0, 1, 2, 3, 4, 10, 12, 13, 15]),
+         [(103, 25), (104, 0), (105, 501), (106, 1), (107, 502), (108, 3), (109, 504), (110, 4), (111, 505), (112, 18), (113, 519),
+          (114, 28), (115, 529), (116, 29), (117, 530), (118, 30), (119, 531), (120, 31), (121, 532)] + end, "four copies, nine words")
+    forms = Counter()
+    for records in ([5], [6, 2], [4, 7, 0], [1, 6, 3, 2]):
+        for k in range(4 * len(records) + 1):
+            for spots in (range(k), range(4 * len(records) - k, 4 * len(records)), [i * 4 * len(records) // k for i in range(k)]):
+                entries = stored(records, spots)
+                same(entries, finish_wanted(image, edited_copies(image, records, spots), at, 5), "%s, %s" % (records, list(spots)))
+                same(len(entries), entries_of_finish(len(records), k), "entries")
+                forms[len(records), form_of(entries[0][1])] += 1
+    same(dict(forms), {(1, "short"): 9, (1, "full"): 6, (2, "short"): 15, (2, "full"): 12, (3, "short"): 24, (3, "full"): 15,
+                       (4, "short"): 30, (4, "full"): 21}, "forms")
+    for one, other in ((0, TOP), (5, 2 ** 63 + 5), (2 ** 32 + 5, 5), (TOP, TOP - 1), (1, 0), (2 ** 40, 2 ** 41)):
+        home = image[:17] + [one] + image[18:]
+        copy = [[3, [512, other, 514, 515]]]
+        done = st.finish(home, writer(st, 8, copy), 48, 1)
+        same(done["entries"], [(103, 17), (104, 13), (105, other)] + end, "%d over %d" % (other, one))
+    for clock, copies, wanted in ((L - 1, [[3, [512, 513, 514, 515]]], ("sealed", L - 1)), (L, [[3, [512, 513, 514, 515]]], (10, 0)),
+                                  (L, [], ("empty", 0))):
+        desk = writer(st, 8, copies, clock)
+        desk["sessions"][1]["slot"] = int(bool(copies))
+        same(answer_of(st.finish(image, desk, 48, 1)), wanted, "clock")
+
+
+def with_log(image, place, words):
+    """The image with these words at the front of a slot."""
+    at = 4 + 4 * image[1] + 22 * place
+    return image[:at] + words + image[at + len(words):]
+
+
+def short_replays(st):
+    """The entries of recover: in numbers with no, one and nine pairs; either form; the smallest number, and what is left."""
+    image = numbered(st, 8)
+    nine = [0, 3, 4, 8, 9, 20, 27, 30, 31]
+    for indexes in ([], [0], [31], [4, 5], nine):
+        log = [7, 16 + len(indexes)] + [word for index in indexes for word in (index, 900 + index)]
+        before = with_log(image, 2, log + [77] * (22 - len(log)))
+        done = st.recover(before, 48)
+        same(answer_of(done), ("replayed", 7), "recover")
+        same(done["entries"], [(4 + index, 900 + index) for index in indexes] + [FENCE, (80, 0), FENCE], "replay of %s" % indexes)
+        same(answer_of(st.recover(done["image"], 48)), ("clean", 0), "and then")
+    one, two = [3, 17, 9, 901], [4, 1, 2, 902, 903, 904, 905]
+    for places in ((0, 3), (3, 0), (1, 2)):
+        done = st.recover(with_log(with_log(image, places[0], one), places[1], two), 48)
+        same((answer_of(done), done["entries"][:-3]), (("replayed", 3), [(13, 901)]), "the smaller number")
+        done = st.recover(done["image"], 48)
+        same((answer_of(done), done["entries"][:-3]), (("replayed", 4), [(12, 902), (13, 903), (14, 904), (15, 905)]), "and the other")
+        done = st.recover(with_log(with_log(image, places[0], [6] + one[1:]), places[1], two), 48)
+        same((answer_of(done), done["entries"][-2]), (("replayed", 4), (36 + 22 * places[1], 0)), "the full one first")
+
+
+def short_refusals(st):
+    """12: each count, indexes at and past the last home word, and indexes that don't ascend, at each place."""
+    def told(n, log, place=1, m=1):
+        done = st.recover(with_log(numbered(st, n, m), place, log + [0] * (22 - len(log))), 48)
+        return answer_of(done)
+    either = [0, 9, 1, 9, 2, 6, 3, 9, 4, 9, 5, 9, 6, 9, 7, 2, 8, 9, 9, 9]  # sound but for the count, read either way
+    for count in [*range(60), 255, 256 + 1, 256 + 16, 2 ** 32 + 3, 2 ** 32 + 16, 2 ** 63, 2 ** 63 + 20, TOP - 15, TOP]:
+        sound = count in (1, 2, 3, 4, 16, 17, 18, 19, 20, 21, 22, 23, 24, 25)
+        same(told(8, [7, count] + either), ("replayed", 7) if sound else (12, 1), "count %d" % count)
+        same(told(8, [0, count] + either), ("clean", 0), "count %d in an empty slot" % count)
+    for n in (1, 2, 8, 64, 256):
+        for index, wanted in ((4 * n - 1, ("replayed", 7)), (4 * n, (12, 1)), (4 * n + 1, (12, 1)), (2 ** 62, (12, 1)),
+                              (2 ** 62 + 1, (12, 1)), (2 ** 32, (12, 1)), (TOP, (12, 1)), (TOP - 3, (12, 1))):
+            same(told(n, [7, 17, index, 9]), wanted, "index %d, N %d" % (index, n))
+            same(told(n, [7, 18, 0, 9, index, 9]), wanted, "index %d, N %d" % (index, n))
+            same(told(n, [7, 17, 0, 9, index, 9]), ("replayed", 7), "index past the pairs")
+    even = list(range(2, 20, 2))
+    for k in range(2, 10):
+        same(told(8, [7, 16 + k] + [w for index in even[:k] for w in (index, 9)]), ("replayed", 7), "ascending")
+        for at in range(1, k):
+            for less in (0, 1):
+                indexes = even[:at] + [even[at - 1] - less] + even[at + 1:]
+                pairs = [w for index in indexes for w in (index, 9)]
+                same(told(8, [7, 16 + k] + pairs), (12, 1), "%s, %d pairs" % (indexes, k))
+                same(told(8, [7, 16 + at] + pairs), ("replayed", 7), "%s, %d pairs" % (indexes, at))
+    image = numbered(st, 8, 3)
+    for logs, wanted in (({1: [2, 1, 8], 3: [1, 17, 32]}, 1), ({1: [2, 17, 32], 3: [1, 1, 8]}, 1), ({0: [1, 17, 31], 5: [2, 26]}, 5),
+                         ({0: [1, 1, 7], 4: [2, 18, 5, 0, 5]}, 4), ({2: [2, 17, 32], 4: [2, 17, 32], 0: [2, 16]}, 2)):
+        before = image
+        for place, log in logs.items():
+            before = with_log(before, place, log)
+        same(answer_of(st.recover(before, 48)), (12, wanted), "the lowest place")
+        same(answer_of(st.recover(before, 47)), (3, 0), "3 before 12")
+        same(answer_of(st.recover(before[:-1], 47)), (1, 0), "1 before 3 and 12")
+
+
+def short_ties(st):
+    """13: whether two logs touch a record in common, over all pairs of some logs of both forms."""
+    bodies = [([16], []), ([17, 0, 9], [0]), ([17, 3, 9], [0]), ([17, 4, 9], [1]), ([17, 7, 9], [1]), ([17, 8, 9], [2]),
+              ([18, 3, 9, 8, 9], [0, 2]), ([18, 4, 9, 11, 9], [1, 2]), ([17, 3, 9, 8, 9], [0]), ([16, 3, 9, 8, 9], []),
+              ([19, 12, 9, 20, 9, 31, 9], [3, 5, 7]), ([1, 0], [0]), ([1, 1], [1]), ([1, 2], [2]), ([1, 7], [7]), ([1, 4], [4]),
+              ([2, 5, 9, 9, 9, 9, 0], [5, 0]), ([2, 3, 9, 9, 9, 9, 2], [3, 2]), ([1, 5, 9, 9, 9, 9, 0], [5]),
+              ([25, 0, 9, 1, 9, 4, 9, 5, 9, 6, 9, 7, 9, 16, 9, 17, 9, 31, 9], [0, 1, 4, 7])]
+    image, seen = numbered(st, 8), Counter()
+    for (one, first), (other, second) in itertools.product(bodies, repeat=2):
+        for places, numbers in itertools.product(((0, 1), (0, 3), (2, 1)), ((5, 5), (5, 6), (TOP, TOP), (5, 2 ** 32 + 5))):
+            before = with_log(with_log(image, places[0], [numbers[0]] + one), places[1], [numbers[1]] + other)
+            odd = numbers[0] == numbers[1] and bool(set(first) & set(second))
+            done = st.recover(before, 48)
+            same(answer_of(done), (13, 0) if odd else ("replayed", min(numbers)), "%s and %s" % (one, other))
+            if not odd:
+                same(done["entries"], replay_wanted(before), "%s and %s" % (one, other))
+            seen[odd] += 1
+    return "%(True)d at odds, %(False)d not" % {str(key): times for key, times in seen.items()}
+
+
+def arrivals(rng, before, entries):
+    """Images after a cut: each number of entries made, of the loose ones none, all, each alone, all but each, and some."""
+    for k in range(len(entries) + 1):
+        memory = Memory(before)
+        memory.take(entries[:k])
+        loose = memory.loose
+        chosen = [[], loose] + [[one] for one in loose] + [[one for one in loose if one != left] for left in loose]
+        chosen += [[one for one in loose if rng.random() < 0.5] for _ in range(3)]
+        for some in chosen:
+            yield memory.after(some)
+
+
+def short_cuts(st):
+    """Finishes of either form cut everywhere, over an older log of the same records, and their recovery cut everywhere:
+    the records are as before, or as written if the persist number has arrived."""
+    rng, ends = random.Random("short cuts"), Counter()
+    for records, spots in (([2], []), ([2], [1]), ([2], [0, 3]), ([2], [0, 1, 3]), ([2, 0], []), ([2, 0], [0, 4, 5, 7]),
+                           ([2, 0], [0, 4, 5, 6, 7]), ([3, 0, 1, 2], [0, 2, 4, 5, 6, 7, 8, 9, 15])):
+        image = numbered(st, 4)
+        older = with_log(image, 0, [2, 1, 2, *image[12:16]] if len(spots) % 2 else [2, 18, 8, image[12], 11, image[15]])
+        copies = edited_copies(image, records, spots)
+        written = list(image)
+        for record, words in copies:
+            written[4 + 4 * record:8 + 4 * record] = words
+        entries = st.finish(older, writer(st, 4, copies), 48, 1)["entries"]
+        for cut in arrivals(rng, older, entries):
+            sealed = cut[4 + 16 + 66] != 0
+            for _ in range(4):
+                done = st.recover(cut, 48)
+                if answer_of(done)[0] == "clean":
+                    break
+                for again in arrivals(rng, cut, done["entries"]):
+                    if rng.random() > 0.2:
+                        continue
+                    ends["cut again"] += 1
+                    same(cleaned(st, again)[4:20], (written if sealed else image)[4:20], "records after a cut recovery")
+                cut = done["image"]
+            same(cut[4:20], (written if sealed else image)[4:20], "records, %s of %s" % (spots, records))
+            ends["sealed" if sealed else "not sealed"] += 1
+    return ", ".join("%s %d" % part for part in sorted(ends.items()))
+
+
+def cleaned(st, image):
+    """The image recovered."""
+    for _ in range(9):
+        done = st.recover(image, 48)
+        if answer_of(done) == ("clean", 0):
+            return image
+        same(answer_of(done)[0], "replayed", "recover")
+        image = done["image"]
+    raise AssertionError("recovery without end")
 
 
 # ---- raw cases -----------------------------------------------------------
@@ -2033,7 +2308,7 @@ def listening_runs(lib):
                 continue
             step = trial.choose()
             done = trial.made(*step)
-            same((*answer_of(done), len(done["entries"])), trial.foresight.step(*step[:3]), "run %d" % run)
+            same((*answer_of(done), len(done["entries"])), trial.foresight.step(*step), "run %d" % run)
             trial.take(step, done)
         cut_call(trial, rng)
         recovered(store, trial, rng, run)
@@ -2305,7 +2580,6 @@ def speed_aims(lib):
         same(stored_cases()[rawspeeds.FIRST + number][0], case, what + " as it is stored")
         answers.add((call, aim, where))
         seen.update(speed_seen(case, call, aim, where))
-    same(len(stored_cases()), rawspeeds.FIRST + len(rawspeeds.TURNS), "stored cases")
     wanted = {*pairs_wanted(), *edges_wanted(), *overs_wanted(), *besides_wanted()}
     wanted |= {("slot", True, "first", 1, 16), ("slot", False, "first", 1, "ok")}
     wanted |= {("clock above word 3", "write reel", without, True) for without in (True, False)}
@@ -2315,7 +2589,137 @@ def speed_aims(lib):
     return "%d cases, %d answers, %d edges" % (len(speed_round()), len(answers), len(wanted))
 
 
+# ---- raw cases of short logs ---------------------------------------------
+
+def short_cases(st):
+    """The cases of short logs meet their aims; what each leaves is what the model gives, and its entries are those that
+    are read off by hand."""
+    for number, (why, answer, value, entries, case) in enumerate(rawshort.TURNS):
+        what = "short case %d, %s" % (number, why)
+        library = None if raw.library_of(case["call"]) is listening else st
+        done = raw.run(case, library)
+        same((*answer_of(done), len(done["entries"])), (answer, value, entries), what)
+        image = case["image"]
+        if answer == "sealed":
+            own = case["desk"]["sessions"][case["session"]]
+            at = 4 + 4 * image[1] + 44 * case["session"] + 22 * own["slot"]
+            same(done["entries"], finish_wanted(image, own["places"][:own["count"]], at, value), what)
+        if answer == "replayed":
+            same(done["entries"], replay_wanted(image), what)
+        same(done, raw.run(case), what)
+    return "%d cases" % len(rawshort.TURNS)
+
+
+def short_seen(case, answer):
+    """What a case has of all that is wanted by hand."""
+    image = case["image"]
+    if case["call"] == "finish" and answer == "sealed":
+        own = case["desk"]["sessions"][case["session"]]
+        copies = own["places"][:own["count"]]
+        spots = [(record, i) for record, words in copies for i in range(4) if words[i] != image[4 + 4 * record + i]]
+        yield "finish", len(copies), len(spots)
+        if len(spots) == 1:
+            yield "the word", image[1], *spots[0]
+        records = [record for record, _ in copies]
+        order = "rise" if records == sorted(records) else "fall" if records == sorted(records, reverse=True) else "mixed"
+        yield "order", len(records), order, spots != sorted(spots)
+    if case["call"] == "recover" and len(image) == 4 + 4 * image[1] + 44 * image[2] and case["trace"] >= 48:
+        logs = [(place, image[at:at + 22]) for place, at in enumerate(range(4 + 4 * image[1], len(image), 22)) if image[at]]
+        for _, log in logs:
+            yield "count", log[1], answer
+        if len(logs) == 1:
+            _, log = logs[0]
+            if 16 < log[1] <= 25 and answer in (12, "replayed"):
+                indexes = log[2:2 + 2 * (log[1] - 16):2]
+                wrong = [at for at in range(1, len(indexes)) if indexes[at] <= indexes[at - 1]]
+                yield from (("wrong at", len(indexes), at, indexes[at] == indexes[at - 1]) for at in wrong if len(wrong) == 1)
+                if not wrong:
+                    yield "largest", image[1], indexes[-1], answer
+                    yield "pairs, the last out of range", len(indexes), answer == 12
+        if len(logs) == 2 and logs[0][1][0] == logs[1][1][0]:
+            (one, a), (other, b) = logs
+            yield "tie", form_of(a[1]), form_of(b[1]), one // 2 == other // 2, answer
+            yield "tie of no pairs", form_of(a[1]), form_of(b[1]), a[1] == 16, b[1] == 16, answer
+
+
+def short_wanted():
+    """By hand: what the cases of short logs have."""
+    yield from (("finish", copies, k) for copies in (1, 2, 3, 4) for k in range(4 * copies + 1))
+    yield from (("the word", n, record, i) for n, records in ((8, (0, 4, 7)), (1, (0,))) for record in records for i in range(4))
+    yield from (("the word", 256, record, i) for record, i in ((0, 0), (63, 3), (64, 0), (255, 3)))
+    yield from (("order", copies, order, order != "rise") for copies in (3, 4) for order in ("rise", "fall", "mixed"))
+    yield from (("count", count, "replayed") for count in (1, 2, 3, 4, *range(16, 26)))
+    yield from (("count", count, 12) for count in (0, *range(5, 16), 26, 27, 31, 32, 2 ** 32 + 16, 2 ** 63, TOP))
+    yield from (("wrong at", 9, at, equal) for at in range(1, 9) for equal in (True, False))
+    for n in (1, 8, 64, 256):
+        yield from (("largest", n, 4 * n - 1, "replayed"), ("largest", n, 4 * n, 12))
+    yield from (("largest", 8, index, 12) for index in (33, 2 ** 32 + 4, 2 ** 62, 2 ** 62 + 1, 2 ** 63, TOP - 3, TOP))
+    yield from (("pairs, the last out of range", k, out) for k in range(1, 10) for out in (True, False))
+    for answer, ones in ((13, (True, False)), ("replayed", (False,))):
+        yield from (("tie", one, other, alone, answer) for one in ("short", "full") for other in ("short", "full") for alone in ones
+                    if (one, other) != ("full", "full") and (one, other, alone) != ("short", "full", True))
+    yield from (("tie of no pairs", *what, "replayed") for what in (("short", "full", True, False), ("full", "short", False, True),
+                                                                   ("short", "short", True, True), ("short", "short", True, False)))
+
+
+def short_aims(st):
+    """The cases of short logs have the stated form, are the stored ones and new; refused ones leave all; all that is
+    wanted of them by hand occurs."""
+    before = {tuple(raw.case_words(case)) for case, _ in stored_cases()[:rawshort.FIRST]}
+    seen, answers = set(), Counter()
+    for number, (why, answer, _, _, case) in enumerate(rawshort.TURNS):
+        what = "short case %d, %s" % (number, why)
+        check_format(case, what)
+        same(stored_cases()[rawshort.FIRST + number][0], case, what + " as it is stored")
+        done = made_unaltered(case)
+        if isinstance(answer, int):
+            desk = store.new_desk(0, 0, 0) if case["call"] == "open" else case["desk"]
+            same((done["desk"], done["image"], done["entries"]), (desk, case["image"], []), what + " leaves all")
+        same(tuple(raw.case_words(case)) in before, False, what + " is there already")
+        before.add(tuple(raw.case_words(case)))
+        answers[case["call"], answer] += 1
+        seen.update(short_seen(case, answer))
+    same(len(stored_cases()), rawshort.FIRST + len(rawshort.TURNS), "stored cases")
+    wanted = set(short_wanted())
+    same(sorted(map(str, wanted - seen)), [], "what no case of short logs has")
+    return "%d cases, %d pairs of call and answer, %d edges" % (len(rawshort.TURNS), len(answers), len(wanted))
+
+
+def short_streams(st):
+    """The streams of small edits: finishes of each number of copies and of words that differ, cut at each count."""
+    seen, logs = Counter(), Counter()
+
+    class Watch(reelwalk.Walk):
+        """Notes the logs of the finishes."""
+
+        def storing(self, kind, session):
+            if kind == 4 and session < 16 and self.desk["sessions"][session]["count"]:
+                done = st.finish(self.image, self.desk, 48, session)
+                if done["answer"]["name"] == "sealed":
+                    own = self.desk["sessions"][session]
+                    differ = sum(word != self.image[4 + 4 * record + i] for record, words in own["places"][:own["count"]]
+                                 for i, word in enumerate(words))
+                    same(len(done["entries"]), entries_of_finish(own["count"], differ), "entries")
+                    seen[own["count"], differ, None if self.cut is None else min(self.cut, len(done["entries"]) + 1)] += 1
+                    logs[form_of(done["entries"][0][1])] += 1
+            return super().storing(kind, session)
+
+    for kind in ("edits", "cuts_edits", "equal_words"):
+        for seed in range(1, stored.SEEDS[kind] + 1):
+            walk, data, at = Watch(st), streams.stream(kind, seed), 0
+            while at < len(data):
+                size = reelwalk.BODIES[data[at]]
+                walk.step(data[at], data[at + 1:at + 1 + size])
+                at += 1 + size
+    wanted = [(copies, k, cut) for copies in (1, 2, 3, 4) for k in [*range(LAST_SHORT[copies] + 2), 4 * copies]
+              for cut in range(entries_of_finish(copies, k) + 2)]
+    wanted += [(copies, k, None) for copies in (1, 2, 3, 4) for k in (0, 1, 2)]
+    same([case for case in wanted if not seen[case]], [], "finishes that no stream has")
+    return "%d finishes with a short log, %d with a full one" % (logs["short"], logs["full"])
+
+
 FILES = {module: module for module in (store, reels, listening)}
+BY_SHORT = [short_finishes, short_replays, short_refusals, short_ties, short_cuts, short_cases]
 BY_CEILING = [ceiling_opens, ceiling_orders, ceiling_publishes, ceiling_coherence, lives, ceiling_cases]
 BY_GROUP = [group_sets, group_orders, group_raises, group_singles, group_moment, group_cuts, group_ends, group_runs,
             group_cases]
@@ -2330,6 +2734,7 @@ ALL += [(test, reels) for test in BY_REELS + [reel_aims]]
 ALL += [(test, listening) for test in BY_LISTENING + [listening_aims]]
 ALL += [(older_cases, FILES), (alone_cases, FILES), (alone_aims, store)]
 ALL += [(speed_cases, reels), (speed_aims, reels)]
+ALL += [(test, store) for test in BY_SHORT + [short_aims, short_streams]]
 
 
 # ---- faulty copies -------------------------------------------------------
@@ -2980,9 +3385,7 @@ CHECKED_LOG = """    if not 1 <= log_count(image, place) <= 4:
 """
 LOG_COUNT = "    return image[slot_at(image[1], place) + 1]\n"
 TWICE_BUT = "any(records[b] == records[a] for b in range(len(records)) for a in range(b) if (a, b) != (%d, %d))"
-IN_COMMON = """    records = [{record for record, _ in log_copies(image, p)} for p in (one, other)]
-    return bool(records[0] & records[1])
-"""
+IN_COMMON = "    return bool(log_records(image, one) & log_records(image, other))\n"
 COMMON_BUT = """    records = [[record for record, _ in log_copies(image, p)] for p in (one, other)]
     return any(a == b for i, a in enumerate(records[0]) for j, b in enumerate(records[1]) if (i, j) != (%d, %d))
 """
@@ -3088,11 +3491,176 @@ ALONE_LISTENING = [
 ]
 ALONE = [("store.py", ALONE_STORE), ("reels.py", ALONE_REELS), ("listening.py", ALONE_LISTENING)]
 
+# The same, of Req 08.
+FORM = "if 2 * len(pairs) < 5 * len(copies):"
+PAIRED = "words = [SHORT + len(pairs)] + [word for pair in pairs for word in pair]"
+DIFFER = "if image[at] != word]"
+IN_ORDER = "return sorted((at - word_at(0), word) for at, word in stores)"
+SEALS = "[FENCE, (at, number), FENCE]"
+IS_SHORT = "return SHORT <= log_count(image, place) <= SHORT + MOST_PAIRS"
+K_PAIRS = "for i in range(log_count(image, place) - SHORT)]"
+DENOTED = "return [(word_at(index), word) for index, word in log_pairs(image, place)]"
+TOUCHED = "return {record_of(index) for index, _ in log_stores(image, place)}"
+RISE = "all(one < other for one, other in zip(indexes, indexes[1:]))"
+OUT = "any(index >= 4 * image[1] for index in indexes)"
+REPLAYED = "log_stores(image, place) + [FENCE, clear, FENCE]"
+REPLACED = "place = min(places, key=lambda p: (persist(image, p), p))\n    clear"
+OCCUPIED = "if persist(image, place) != 0]"
+ALL_NINE = "[image[slot_at(image[1], place) + 2 + 2 * i] for i in range(9)]"
+ONE_MORE = ALL_NINE + "[:log_count(image, place) - SHORT + 1]"
+SHORT_FAULTS = [
+    ("a copy compared with what its session reads", DIFFER, "if False]"),
+    ("a copy compared with zeros", DIFFER, "if word != 0]"),
+    *[("the low %d bits alone compared with home" % bits, DIFFER, "if (image[at] - word) %% 2 ** %d]" % bits) for bits in (8, 32, 63)],
+    ("the high 32 bits alone compared with home", DIFFER, "if image[at] >> 32 != word >> 32]"),
+    ("a word differs only if it is larger", DIFFER, "if image[at] < word]"),
+    ("a word of 0 does not differ", DIFFER, "if image[at] != word and word]"),
+    ("all words of the copies are listed", DIFFER, "]"),
+    ("all words of a copy that differs are listed", DIFFER,
+     "if home(image, record_of(at)) != [w for a, w in to_home(copies) if record_of(a) == record_of(at)]]"),
+    ("words that are equal to home are listed", DIFFER, "if image[at] == word]"),
+    ("the last word that differs is left out", IN_ORDER, IN_ORDER + "[:-1]"),
+    ("the first word that differs is left out", IN_ORDER, IN_ORDER + "[1:]"),
+    ("the last home word is left out", DIFFER, "if image[at] != word and at < 3 + 4 * image[1]]"),
+    ("the first home word is left out", DIFFER, "if image[at] != word and at > 4]"),
+    *[("word %d of a record is left out" % i, DIFFER, "if image[at] != word and at %% 4 != %d]" % i) for i in range(4)],
+    *[("the copy at place %d is left out" % place, DIFFER, "if image[at] != word and at not in [a for a, _ in to_home(copies[%d:%d])]]"
+       % (place, place + 1)) for place in range(4)],
+    ("the words in the order of first writes", IN_ORDER, "return [(at - word_at(0), word) for at, word in stores]"),
+    ("the words in descending index", IN_ORDER, IN_ORDER.replace("sorted(", "sorted((").replace("stores)", "stores), reverse=True)")),
+    ("the words by their value", IN_ORDER, IN_ORDER.replace("sorted(", "sorted((").replace("stores)", "stores), key=lambda p: p[::-1])")),
+    ("records ascend, the words of each descend", IN_ORDER, IN_ORDER.replace("sorted(", "sorted((").replace(
+        "stores)", "stores), key=lambda p: (p[0] // 4, -p[0]))")),
+    ("the index in the image is listed", IN_ORDER, "return sorted(stores)"),
+    ("the record is listed", IN_ORDER, IN_ORDER.replace("at - word_at(0)", "record_of(at)")),
+    ("short up to 2k equal to 5c", FORM, FORM.replace("<", "<=")),
+    ("short below 4c", FORM, FORM.replace("5 *", "4 *")),
+    ("short below 6c", FORM, FORM.replace("5 *", "6 *")),
+    ("short if 2k + 1 is below 5c", FORM, FORM.replace("2 * len(pairs)", "2 * len(pairs) + 1")),
+    ("short if 2k + 2 is below 5c", FORM, FORM.replace("2 * len(pairs)", "2 * len(pairs) + 2")),
+    ("short up to 9 words", FORM, "if len(pairs) <= 9:"),
+    ("short up to 2 words for each copy", FORM, "if len(pairs) <= 2 * len(copies):"),
+    *[("short up to %d words" % k, FORM, FORM.replace(":", " and len(pairs) <= %d:" % k)) for k in (1, 8)],
+    *[("full with %d copies" % copies, FORM, FORM.replace(":", " and len(copies) != %d:" % copies)) for copies in (1, 2, 3, 4)],
+    ("full where no word differs", FORM, FORM.replace("if ", "if 0 < ")),
+    ("always full", FORM, "if False:"),
+    ("always short", FORM, "if True:"),
+    ("word 1 is k", PAIRED, PAIRED.replace("SHORT + ", "")),
+    ("word 1 is 17 + k", PAIRED, PAIRED.replace("SHORT + ", "SHORT + 1 + ")),
+    ("word 1 is 16 and the number of copies", PAIRED, PAIRED.replace("len(pairs)", "len(copies)")),
+    ("new word before index", PAIRED, PAIRED.replace("in pair]", "in pair[::-1]]")),
+    ("all indexes, and then all words", PAIRED, "words = [SHORT + len(pairs)] + [i for i, _ in pairs] + [w for _, w in pairs]"),
+    ("a short log is filled up with zeros", PAIRED, PAIRED + " + [0] * (20 - 2 * len(pairs))"),
+    ("a zero behind the pairs", PAIRED, PAIRED + " + [0]"),
+    ("a short log's persist number in its body's fence group", SEALS, "[FENCE] * (own[\"count\"] <= 4 and log_body(\n"
+     "        at, image, copies_of(own))[0][1] < 16) + [(at, number), FENCE]"),
+    ("a short log's persist number first", "log_body(at, image, copies_of(own)) + " + SEALS,
+     "[(at, number)] + log_body(at, image, copies_of(own)) + [FENCE, FENCE]"),
+    ("finish without the last fence where no word differs", SEALS, SEALS + "[:2 + bool(differing(image, copies_of(own)))]"),
+    ("finish without the first fence where no word differs", SEALS, SEALS + "[not differing(image, copies_of(own)):]"),
+    ("finish is empty where no word differs", "    if own[\"count\"] == 0:\n        return result(said(\"empty\")",
+     "    if not differing(image, copies_of(own)):\n        return result(said(\"empty\")"),
+    ("finish at L seals a short log", "    if number >= L:", "    if number >= L and len(differing(image, copies_of(own))) > 2:"),
+    ("settle stores the words that differ alone", "entries = to_home(copies_of(own)) + [FENCE]",
+     "entries = [(at, word) for at, word in to_home(copies_of(own)) if image[at] != word] + [FENCE]"),
+    ("settle stores what the log has", "entries = to_home(copies_of(own)) + [FENCE]",
+     "place = 2 * session + own[\"slot\"]\n"
+     "    entries = (log_stores(image, place) if is_short(image, place) else to_home(copies_of(own))) + [FENCE]"),
+    ("a short log is replayed backwards", DENOTED, DENOTED + "[::-1]"),
+    ("a short log is taken for a full one", "    if is_short(image, place):\n        " + DENOTED, "    if False:\n        " + DENOTED),
+    ("a short log is taken for a full one of k copies", DENOTED,
+     "return to_home([[w[0], w[1:]] for w in [image[slot_at(image[1], place) + 2 + 5 * i:][:5]\n"
+     "                                           for i in range(log_count(image, place) - SHORT)]])"),
+    ("the last pair is not replayed", DENOTED, DENOTED + "[:-1]"),
+    ("the first pair is not replayed", DENOTED, DENOTED + "[1:]"),
+    ("eight pairs are replayed at most", DENOTED, DENOTED + "[:8]"),
+    ("one pair more is replayed", K_PAIRS, K_PAIRS.replace(" - SHORT", " - SHORT + 1")),
+    ("an index is taken for one of the image", DENOTED, DENOTED.replace("word_at(index)", "index")),
+    ("an index is taken for a record", DENOTED, DENOTED.replace("word_at(index)", "word_at(4 * index) % 36")),
+    ("the number of a short log is cleared in the fence group of its words", REPLAYED,
+     "log_stores(image, place) + [FENCE] * (not is_short(image, place)) + [clear, FENCE]"),
+    ("a log without pairs is cleared without the first fence", REPLAYED,
+     "log_stores(image, place) + [FENCE] * bool(log_stores(image, place)) + [clear, FENCE]"),
+    ("recovery without the last fence of a short log", REPLAYED, REPLAYED.replace(
+        "clear, FENCE]", "clear] + [FENCE] * (not is_short(image, place))")),
+    ("full logs are replayed first", REPLACED, REPLACED.replace("(persist", "(is_short(image, p), persist")),
+    ("short logs are replayed first", REPLACED, REPLACED.replace("(persist", "(not is_short(image, p), persist")),
+    ("full logs are replayed first among equals", REPLACED, REPLACED.replace(", p))", ", is_short(image, p), p))")),
+    ("short logs are replayed first among equals", REPLACED, REPLACED.replace(", p))", ", not is_short(image, p), p))")),
+    ("a slot without pairs is empty", OCCUPIED, OCCUPIED.replace("]", " and log_count(image, place) != SHORT]")),
+    ("10 pairs pass", "MOST_PAIRS = 9", "MOST_PAIRS = 10"),
+    ("9 pairs are refused", "MOST_PAIRS = 9", "MOST_PAIRS = 8"),
+    ("word 1 of 15 passes", IS_SHORT, IS_SHORT.replace("SHORT <=", "SHORT - 1 <=")),
+    ("word 1 of 5 to 15 passes as no pairs", IS_SHORT, IS_SHORT.replace("SHORT <=", "5 <=")),
+    ("word 1 of 16 is refused", IS_SHORT, IS_SHORT.replace("SHORT <=", "SHORT <")),
+    ("a count of 5 passes", CHECKED_LOG, CHECKED_LOG.replace("<= 4", "<= 5").replace("place)]\n", "place)][:4]\n")),
+    ("a count of 0 passes", CHECKED_LOG, CHECKED_LOG.replace("1 <=", "0 <=")),
+    *[("word 1 modulo %d" % by, LOG_COUNT, LOG_COUNT[:-1] + " %% %d\n" % by) for by in (16, 26, 32, 256, 2 ** 32, 2 ** 63)],
+    ("an index of 4N passes", OUT, OUT.replace(">=", ">")),
+    ("an index of 4N - 1 is refused", OUT, OUT.replace("4 * image[1]", "4 * image[1] - 1")),
+    ("an index is compared with N", OUT, OUT.replace("4 * image[1]", "image[1]")),
+    ("an index is compared with 4 * 256", OUT, OUT.replace("4 * image[1]", "1024")),
+    ("an index is not compared", OUT, "False"),
+    ("the first index alone is compared with 4N", OUT, OUT.replace("in indexes", "in indexes[:1]")),
+    ("the first eight indexes alone are compared with 4N", OUT, OUT.replace("in indexes", "in indexes[:8]")),
+    *[("the low %d bits of an index alone" % bits, OUT, OUT.replace("(index", "(index %% 2 ** %d" % bits)) for bits in (8, 32, 62, 63)],
+    ("an index plus 4 wraps", OUT, "any((index + 4) % 2 ** 64 >= 4 + 4 * image[1] for index in indexes)"),
+    ("equal indexes pass", RISE, RISE.replace("<", "<=")),
+    ("indexes that fall pass", RISE, RISE.replace("<", "!=")),
+    ("indexes in any order pass", RISE, "True"),
+    ("the first and last index alone are compared", RISE, "len(indexes) < 2 or indexes[0] < indexes[-1]"),
+    ("the first index is compared with each", RISE, "all(indexes[0] < other for other in indexes[1:])"),
+    ("indexes that differ pass", RISE, "len(set(indexes)) == len(indexes)"),
+    ("indexes ascend by one record at least", RISE, RISE.replace("one < other", "one // 4 < other // 4")),
+    ("the next index is one above", RISE, RISE.replace("one < other", "one + 1 == other")),
+    *[("index %d is not compared with the one before" % at, RISE,
+       "all(indexes[i - 1] < indexes[i] for i in range(1, len(indexes)) if i != %d)" % at) for at in range(1, 9)],
+    ("new words have to ascend too", RISE, RISE + " and sorted(log_pairs(image, place), key=lambda p: p[1]) == log_pairs(image, place)"),
+    ("the indexes ascend past the pairs too", RISE, "all(one < other for one, other in zip(%s, %s[1:]))" % (ALL_NINE, ALL_NINE)),
+    ("the indexes past the pairs are below 4N too", OUT, "any(index >= 4 * image[1] for index in %s)" % ALL_NINE),
+    ("the index past the pairs ascends too", RISE, "all(one < other for one, other in zip(%s, %s[1:]))" % (ONE_MORE, ONE_MORE)),
+    ("12 is asked of empty slots too", RECOVER_BAD, RECOVER_BAD.replace("in places if", "in range(2 * image[2]) if")),
+    ("12 names full logs first", RECOVER_BAD, RECOVER_BAD + "\n    bad.sort(key=lambda place: log_count(image, place) >= SHORT)"),
+    ("12 names short logs first", RECOVER_BAD, RECOVER_BAD + "\n    bad.sort(key=lambda place: log_count(image, place) < SHORT)"),
+    ("12 names the highest place", RECOVER_BAD, RECOVER_BAD.replace("in places if", "in places[::-1] if")),
+    ("13 goes by words", TOUCHED, TOUCHED.replace("record_of(index)", "index")),
+    ("13 takes an index for a record", TOUCHED, TOUCHED.replace(
+        "record_of(index)", "index - 4 if is_short(image, place) else record_of(index)")),
+    ("13 goes by the index in the image", "return (at - home_at(0)) // 4", "return (at - 3) // 4"),
+    ("13 goes by eight words", "return (at - home_at(0)) // 4", "return (at - home_at(0)) // 8"),
+    ("13 of logs of one form alone", IN_COMMON, IN_COMMON.replace(
+        "return ", "return is_short(image, one) == is_short(image, other) and ")),
+    ("13 of logs of different forms alone", IN_COMMON, IN_COMMON.replace(
+        "return ", "return is_short(image, one) != is_short(image, other) and ")),
+    ("13 not of two short logs", IN_COMMON, IN_COMMON.replace(
+        "return ", "return not (is_short(image, one) and is_short(image, other)) and ")),
+    ("13 not where the lower one is short", IN_COMMON, IN_COMMON.replace("return ", "return not is_short(image, one) and ")),
+    ("13 not where the higher one is short", IN_COMMON, IN_COMMON.replace("return ", "return not is_short(image, other) and ")),
+    ("13 of a log without pairs", IN_COMMON, IN_COMMON.replace(
+        "return ", "return SHORT in (log_count(image, one), log_count(image, other)) or ")),
+    ("13 of two logs without pairs", IN_COMMON, IN_COMMON.replace(
+        "return ", "return SHORT == log_count(image, one) == log_count(image, other) or ")),
+    ("a log without pairs touches record 0", TOUCHED, TOUCHED + " or {0}"),
+    ("13 looks past the pairs", TOUCHED, TOUCHED + " | ({i // 4 for i in %s} if is_short(image, place) else set())" % ALL_NINE),
+    *[("13 does not look at pair %d" % at, TOUCHED, TOUCHED.replace("log_stores(image, place)", "log_stores(image, place)[:%d] + (\n"
+       "        log_stores(image, place)[%d + is_short(image, place):])" % (at, at))) for at in range(9)],
+    ("13 whatever the numbers", "    if persist(image, one) != persist(image, other):", "    if False:"),
+    ("13 by the low 32 bits of the numbers", "    if persist(image, one) != persist(image, other):",
+     "    if (persist(image, one) - persist(image, other)) % 2 ** 32:"),
+    ("13 before 12", "    if bad:\n", "    if bad and not any(%s):\n" % ODD_PAIRS.replace(
+        "at_odds(image, a, b)", "persist(image, a) == persist(image, b)")),
+    ("recover takes 47 words for a short log", RECOVER_3, RECOVER_3.replace(
+        "TRACE_WORDS:", "TRACE_WORDS and not any(is_short(image, p) for p in occupied(image)):")),
+    ("finish takes the room that its list needs", FINISH_CHECKS, FINISH_CHECKS.replace(
+        "trace", "48 if session < 16 and trace >= 8 and desk[\"sessions\"][session][\"count\"] == 2 else trace")),
+]
+
 # File, its module, the tests that are run on copies of it, those that each must catch every fault alone, and
 # the faults.
 PLANTED = [("store.py", store, BY_STORE, [], STORE_FAULTS),
            ("store.py", store, BY_CEILING, [ceiling_cases], CEILING_FAULTS),
            ("store.py", store, BY_GROUP, [group_cases], GROUP_FAULTS),
+           ("store.py", store, BY_SHORT, [short_cases], SHORT_FAULTS),
            ("reelwalk.py", reelwalk, BY_WALK, [], WALK_FAULTS), ("reels.py", reels, BY_REELS, [], REEL_FAULTS),
            ("reels.py", reels, BY_REELS + [speed_cases], [speed_cases], SPEED_FAULTS),
            ("listening.py", listening, BY_LISTENING, [listening_cases], LISTENING_FAULTS)]

@@ -284,7 +284,7 @@ def test_documents():
     """Document 01's whole case, and the README's two files."""
     words = " 00" * 31
     right(WHOLE_CASE, bytes.fromhex("00 02 02 01 00 01 01 03 00 01 05" + words + "02 00 01 04 00 05 00 02 01 01 06 00 04 01 06 00 07 00"))
-    session = bytes.fromhex("00 02 02 01 00 03 00 01 05" + words + "09 08 04 00 01 01 02 01 01")
+    session = bytes.fromhex("00 02 02 01 00 03 00 01 05" + words + "09 05 04 00 01 01 02 01 01")
     waiting = bytes.fromhex("00 02 04 01 02 01 03 03 03 00 07" + words + "04 03 05 03 01 00 01 01 03 01 01 08" + words
                             + "04 01 05 01 06 01 04 02 06 01 04 00 06 01")
     for name, stream in (("session.txt", session), ("waiting.txt", waiting)):

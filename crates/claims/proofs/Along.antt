@@ -69,7 +69,7 @@ module _ (N M : ℕ) (w : World) (a : Along N M w) where
   same-here (read s r) = read-sim N M (w .image) (w .desk) s r _ (w .ledger .history) (a .ready) (rw (a .linked) at (a .held .holds))
   same-here (write s r ws) = write-sim N M (w .image) (w .desk) s r ws (w .ledger .history) (a .ready)
   same-here (abandon s) = abandon-sim N M (w .image) (w .desk) s _ (w .ledger .history) (a .ready)
-  same-here (finish len s) = finish-sim N M (w .image) (w .desk) _ (w .ledger .history) len s (a .ready)
+  same-here (finish len s) = finish-sim N M (w .image) (w .desk) _ (w .ledger .history) len s (a .ready) (rw (a .linked) at (a .held .holds))
   same-here (publish len s) = publish-sim N M (w .image) (w .desk) _ (w .ledger .history) len s (a .ready)
   same-here (group len set) = group-sim N M (w .image) (w .desk) _ (w .ledger .history) len set (a .ready)
   same-here (settle len s) = settle-sim N M (w .image) (w .desk) _ (w .ledger .history) len s (a .ready)

@@ -13,11 +13,11 @@ use Rattle.layout.specs.Ceiling.{passEntries}
 use Rattle.layout.specs.Checks.{first, answered}
 use Rattle.layout.specs.Entries.{Entry, store, fence, Write, stores, shift}
 use Rattle.layout.specs.Homes.{homesWrites}
-use Rattle.layout.specs.Image.{recordsOf, placeOf, slotAt, shapedB, occupiedB}
+use Rattle.layout.specs.Image.{recordsOf, homeWords, placeOf, slotAt, shapedB, occupiedB}
 use Rattle.layout.specs.Lay.{layFault, laidImage}
 use Rattle.layout.specs.Oldest.{oldestOf}
 use Rattle.layout.specs.Told.{isRefusal}
-use Rattle.journal.specs.Log.{countOf, recOf, wordsOf, denoted, logEntries, unsoundB, sharedB}
+use Rattle.journal.specs.Log.{Slot, countOf, recOf, wordsOf, shortB, pairsOf, indexOf, wordOf, pairsWrites, denoted, logEntries, unsoundB, sharedB}
 use Rattle.desk.specs.Coherent.{freshB, placesOk, sessionOk, copiesB, coherentB}
 use Rattle.desk.specs.Desk.{copiedRec, copiedWords, sessionAt}
 use Rattle.desk.specs.Entering.{entryFault}
@@ -85,14 +85,28 @@ unfolding homesWrites
 homes rec words zero = tt
 homes rec words (suc k) = home-append (homesWrites rec words k) _ (homes rec words k) (omega arith, (omega arith, (omega arith, (omega arith, tt))))
 
+pairs : (index word : ℕ → ℕ) (k : ℕ) → Home (pairsWrites index word k)
+unfolding pairsWrites
+pairs index word zero = tt
+pairs index word (suc k) = home-append (pairsWrites index word k) _ (pairs index word k) (omega arith, tt)
+
 at-home : (ws : List Write) (es : List Entry) → Home ws → Behind es → Behind (stores ws ++ es)
 at-home [] es h b = b
 at-home (w ∷ ws) es h b = (h .0, at-home ws es (h .1) b)
 
-seal : (d : Desk) (s : ℕ) → Behind (sealEntries d s)
-seal d s =
+-- whatever the log's form
+log-home : (f : Slot) → Home (denoted f)
+unfolding denoted
+log-home f = go (shortB f)
+  where
+    go : (b : Bool) → Home (cond b (pairsWrites (indexOf f) (wordOf f) (pairsOf f)) (homesWrites (recOf f) (wordsOf f) (countOf f)))
+    go true = pairs (indexOf f) (wordOf f) (pairsOf f)
+    go false = homes (recOf f) (wordsOf f) (countOf f)
+
+seal : (img : List ℕ) (d : Desk) (s : ℕ) → Behind (sealEntries img d s)
+seal img d s =
     in-slot (slotAt (d .n) (placeOf s (sessionAt d s .slot)))
-    (logEntries (d .clock) (copiedRec (sessionAt d s)) (copiedWords (sessionAt d s)) (sessionAt d s .count)) (omega arith)
+    (logEntries (d .n) (homeWords img) (d .clock) (copiedRec (sessionAt d s)) (copiedWords (sessionAt d s)) (sessionAt d s .count)) (omega arith)
 
 go-home : (d : Desk) (s : ℕ) → Behind (goHomeEntries d s)
 go-home d s =
@@ -102,7 +116,7 @@ go-home d s =
 replay : (img : List ℕ) (p : ℕ) → Behind (replayEntries img p)
 replay img p =
     at-home (denoted (logAt img p)) (fence ∷ store (slotAt (recordsOf img) p) 0 ∷ fence ∷ [])
-    (homes (recOf (logAt img p)) (wordsOf (logAt img p)) (countOf (logAt img p))) (omega arith, tt)
+    (log-home (logAt img p)) (omega arith, tt)
 
 clear : (img : List ℕ) (d : Desk) (s : ℕ) → Behind (clearEntries img d s)
 clear img d s = (omega arith, tt)
@@ -121,8 +135,8 @@ ceiling-kept =
       any-shaped = any-shaped;
       finish = λ img d len s.
           keeps (finishEntries img d len s) img
-          (unless-refused (finishFault img d len s) (cond (eqb (sessionAt d s .count) 0) [] (sealEntries d s))
-          (either (eqb (sessionAt d s .count) 0) [] (sealEntries d s) tt (seal d s)));
+          (unless-refused (finishFault img d len s) (cond (eqb (sessionAt d s .count) 0) [] (sealEntries img d s))
+          (either (eqb (sessionAt d s .count) 0) [] (sealEntries img d s) tt (seal img d s)));
       settle = λ img d len s.
           keeps (settleEntries img d len s) img
           (unless-refused (settleFault img d len s) (cond (waitsB d s) [] (goHomeEntries d s))

@@ -7,6 +7,7 @@ use lib.ListN.{length, getD}
 use Rattle.layout.specs.Entries.{shift}
 use Rattle.layout.specs.Homes.{homesWrites}
 use Rattle.journal.specs.Log.{bodyWrites, logEntries}
+use Rattle.journal.proofs.ChangesLaws.{changes-same}
 use Rattle.desk.specs.Desk.{noCopy, copiedRec, copiedWords}
 use Rattle.desk.specs.declared.state.RecordCopy.{RecordCopy}
 use Rattle.desk.specs.declared.state.Session.{Session}
@@ -30,10 +31,10 @@ body-same rec rec′ words words′ c (suc k) a b =
     rw (body-same rec rec′ words words′ c k (λ j l. a j (omega arith)) (λ j l. b j (omega arith)), a k (omega arith), b k (omega arith)) refl
 
 module _ (e : Session) (l : e .count ≤ length (e .copies)) where
-  same-rec : (j : ℕ) → j < e .count → copiedRec e j ≡ recAt (copiesOf e) j
+  pub same-rec : (j : ℕ) → j < e .count → copiedRec e j ≡ recAt (copiesOf e) j
   same-rec j m = ap (λ (c : Copy). c .0) (sym (front-at (e .count) (e .copies) j m l))
 
-  same-words : (j : ℕ) → j < e .count → copiedWords e j ≡ wordsAt (copiesOf e) j
+  pub same-words : (j : ℕ) → j < e .count → copiedWords e j ≡ wordsAt (copiesOf e) j
   same-words j m = ap (λ (c : Copy). c .1) (sym (front-at (e .count) (e .copies) j m l))
 
   pub homes-copies : homesWrites (copiedRec e) (copiedWords e) (e .count) ≡ writes (copiesOf e)
@@ -41,9 +42,13 @@ module _ (e : Session) (l : e .count ≤ length (e .copies)) where
       homes-same _ _ _ _ (e .count) same-rec (λ k j m n. ap (λ (ws : List ℕ). getD ws j 0) (same-words k m))
       ∙ ap (homesWrites (recAt (copiesOf e)) (wordsAt (copiesOf e))) (sym (length-front (e .count) (e .copies) l))
 
-  -- the log, in a slot at b
-  pub log-copies : (b n : ℕ) → shift b (logEntries n (copiedRec e) (copiedWords e) (e .count))
-      ≡ shift b (logEntries n (recAt (copiesOf e)) (wordsAt (copiesOf e)) (length (copiesOf e)))
-  log-copies b n =
-      rw (body-same (copiedRec e) (recAt (copiesOf e)) (copiedWords e) (wordsAt (copiesOf e)) (e .count) (e .count) same-rec same-words, length-front (e .count) (e .copies) l)
-      refl
+  -- the log over home records that agree on the copied ones, in a slot at b
+  pub log-copies : (home home′ : ℕ → List ℕ) → ((j w : ℕ) → j < e .count → w < 4 → getD (home (copiedRec e j)) w 0 ≡ getD (home′ (copiedRec e j)) w 0)
+      → (N b n : ℕ) → shift b (logEntries N home n (copiedRec e) (copiedWords e) (e .count))
+      ≡ shift b (logEntries N home′ n (recAt (copiesOf e)) (wordsAt (copiesOf e)) (length (copiesOf e)))
+  log-copies home home′ h N b n =
+      rw (
+        body-same (copiedRec e) (recAt (copiesOf e)) (copiedWords e) (wordsAt (copiesOf e)) (e .count) (e .count) same-rec same-words,
+        changes-same home home′ (copiedRec e) (recAt (copiesOf e)) (copiedWords e) (wordsAt (copiesOf e)) (e .count) same-rec same-words h N,
+        length-front (e .count) (e .copies) l,
+      ) refl

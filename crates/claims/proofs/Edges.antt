@@ -5,7 +5,9 @@ use Rattle.layout.specs.Checks.{first, answered}
 use Rattle.layout.specs.Image.{shapedB, occupiedB}
 use Rattle.layout.specs.Lay.{layFault, layAnswer}
 use Rattle.layout.specs.Homes.{homesWrites}
-use Rattle.journal.specs.Log.{bodyWrites, unsoundB, sharedB}
+use Rattle.journal.specs.Changes.{changesOf, changesBelow}
+use Rattle.journal.specs.Lengths.{finishLength, recoverLength, sealLength, replayLength}
+use Rattle.journal.specs.Log.{pairsWrites, denoted, bodyWrites, shortWrites, unsoundB, sharedB}
 use Rattle.layout.specs.Oldest.{oldestOf}
 use Rattle.desk.specs.Desk.{unmarked}
 use Rattle.desk.specs.Coherent.{freshB, placesOk, sessionOk, copiesB, coherentB}
@@ -19,7 +21,7 @@ use Rattle.recovery.specs.Recover.{unsoundPlace, tiedBelow, tiesB, recoverFault
 use Rattle.claims.specs.Edges.{Edges}
 
 pub edges : Edges
-unfolding allBelow anyBelow countBelow lowest first answered shapedB occupiedB layFault layAnswer homesWrites bodyWrites unsoundB sharedB oldestOf unmarked freshB placesOk sessionOk copiesB coherentB entryFault openFault openReply readFault sightOf readReply copyFault writeFault writeRefused writeReply finishFault finishEntries finishReply reclaimFault reclaimReply unsoundPlace tiedBelow tiesB recoverFault firstLog recoverRefused recoverReply
+unfolding allBelow anyBelow countBelow lowest first answered shapedB occupiedB layFault layAnswer homesWrites bodyWrites denoted pairsWrites shortWrites changesOf changesBelow sealLength replayLength finishLength recoverLength unsoundB sharedB oldestOf unmarked freshB placesOk sessionOk copiesB coherentB entryFault openFault openReply readFault sightOf readReply copyFault writeFault writeRefused writeReply finishFault finishEntries finishReply reclaimFault reclaimReply unsoundPlace tiedBelow tiesB recoverFault firstLog recoverRefused recoverReply
 edges =
     record {
       a-lay = refl;
@@ -38,6 +40,10 @@ edges =
       g-limit = refl;
       h = refl;
       i = refl;
+      h-short = refl;
+      i-short = refl;
+      hi-entries = refl;
+      hi-short-entries = refl;
       j = refl;
       k = refl;
       m = refl;

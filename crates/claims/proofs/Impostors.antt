@@ -19,7 +19,8 @@ use Rattle.layout.specs.Image.{shapedB, occupiedB, homeWords, slotAt}
 use Rattle.layout.specs.Lay.{emptyImage}
 use Rattle.layout.specs.Told.{Told, ok, start, copied, home, wait, nothing, held, clean, replayed, foundAt, codeTold, is, isRefusal, refusedBy, valueOf, wordsTold, None}
 use Rattle.layout.proofs.Says.{by-test}
-use Rattle.journal.specs.Log.{bodyWrites, unsoundB, sharedB}
+use Rattle.journal.specs.Changes.{changesOf, changesBelow}
+use Rattle.journal.specs.Log.{pairsWrites, denoted, bodyWrites, shortWrites, unsoundB, sharedB}
 use Rattle.layout.specs.Oldest.{oldestOf}
 use Rattle.desk.specs.Coherent.{freshB, placesOk, sessionOk, copiesB, coherentB}
 use Rattle.desk.specs.Desk.{sessionAt, markAt, isSealed, idleSession}
@@ -48,13 +49,15 @@ use Rattle.history.specs.Looks.{Looks}
 use Rattle.claims.specs.Rules.{Reply, Rules, searching, storeRules}
 use Rattle.claims.specs.Run.{World, opened, openLedger, reply, step, run, stored, sinceOpening}
 use Rattle.claims.specs.Recovery.{replays, afterCalls, afterStop, afterAttempts, afterWhole, Ends}
-use Rattle.claims.specs.Demands.{Demand2, OpeningStores, PublishStores, Demand3, Cut, during, cutImage, cutHistory, FindRight, Recovered}
+use Rattle.claims.specs.Demands.{Demand2, OpeningStores, PublishStores, StoresDue, Demand3, Cut, during, cutImage, cutHistory, FindRight, Recovered}
 use Rattle.claims.specs.Edges.{deskOf, oneMark, oneCopy}
 use Rattle.claims.specs.Lives.{Life, AllCome, afterLife, afterLives}
+use Rattle.claims.specs.Recovering.{RecoverDue}
+use Rattle.claims.specs.Refusals.{holds, firstRefusal}
 use Rattle.claims.specs.Fresh.{numberGiven, Gives, Fresh}
 use Rattle.claims.specs.Together.{GroupStores}
 use Rattle.claims.specs.Impostors.{oneByOne, inTurn, endsInTurn, tickingForEach, ticksForEach, firstAlone, endsFirstAlone, showingLater, showsLater, publishesSome}
-use Rattle.claims.specs.Impostors.{Impostors, Change, kindOf, past, telling, relisting, zeroing, miscounting, clearingEarly, waitingForAll, showingSealed, busyOther, heldSealed, sealedCopy, turnsAway, waitsAtOnce, holdsAtOnce, readsZeros, zeroed, doesNothing, storesNothing, saysClean, clearing, clearsOthers, withoutLast, unfencedAt, replaysOne, miscounts, unfenced, oneGroup, sessionOrder, clearsEarly, waitsForAll, showsSealed, namingBy, names, lowestReader, lastReader, newestReader, asRead, asHome, Search, firstEnd, lastEnd, earlyEnd, findingBy, findsBy, openingBy, clockAlone}
+use Rattle.claims.specs.Impostors.{Impostors, Change, kindOf, past, telling, relisting, zeroing, miscounting, clearingEarly, waitingForAll, showingSealed, busyOther, heldSealed, sealedCopy, turnsAway, waitsAtOnce, holdsAtOnce, readsZeros, zeroed, doesNothing, storesNothing, saysClean, clearing, clearsOthers, withoutLast, unfencedAt, replaysOne, miscounts, unfenced, oneGroup, sessionOrder, clearsEarly, waitsForAll, showsSealed, namingBy, names, lowestReader, lastReader, newestReader, asRead, asHome, Search, firstEnd, lastEnd, earlyEnd, findingBy, findsBy, openingBy, clockAlone, withoutPair, losesPair, exchanged, writesInOrder, withoutPairs, comparesWithOwn, inFull, fullWhereSame, clearsShort, replaysBackwards, fullAlone, differing, settlingChanged, settlesChanged}
 use Rattle.claims.proofs.Abstraction.{txn-of, copiesOf, pack, marked}
 use Rattle.claims.proofs.Entering.{holder-named}
 use Rattle.claims.proofs.Along.{Along, same, step-along, run-along, opened-along, call-fenced}
@@ -118,7 +121,7 @@ after : List Call → World
 after calls = run storeRules calls (opened storeRules image 48)
 
 expected : List Call → Seen
-unfolding allBelow anyBelow countBelow lowest first answered shapedB occupiedB homesWrites bodyWrites unsoundB sharedB oldestOf openFault openEntries openReply unsoundPlace tiedBelow tiesB recoverFault firstLog recoverRefused recoverReply recoverEntries note due smallest member reply upd firstOf seen due-stored replays afterAttempts clearing
+unfolding allBelow anyBelow countBelow lowest first answered shapedB occupiedB homesWrites denoted pairsWrites bodyWrites shortWrites changesOf changesBelow unsoundB sharedB oldestOf openFault openEntries openReply unsoundPlace tiedBelow tiesB recoverFault firstLog recoverRefused recoverReply recoverEntries note due smallest member reply upd firstOf seen due-stored replays afterAttempts clearing
 expected calls = seen calls first-seen
 
 after-is : (calls : List Call) → run storeRules calls (opened storeRules image 48) ≡ after calls
@@ -771,6 +774,99 @@ looks-early h =
     (ap (λ (x : Search). x .number) (sym early-search)
     ∙ found-right asRead earlyEnd (shelving 9) refl (search depth 14) h .none (ap (λ (x : Search). is None (x .told)) early-search))
 
+-- ---- short logs
+
+-- session 1 edits one word of record 0
+abbrev editing : List Call
+editing = begin 1 ∷ write 1 0 (5 ∷ 0 ∷ 0 ∷ 0 ∷ []) ∷ []
+
+-- the word is lost
+loses-pair : Demand3 losesPair → ⊥
+unfolding expected
+loses-pair h = unlike (recovers-behind 4 withoutPair editing (finish 48 1) refl refl (search) h (48 ∷ []) refl .records 0 (omega arith)) refl
+
+-- the log is not replayed
+clears-short : Demand3 clearsShort → ⊥
+unfolding expected
+clears-short h = unlike (between clearsShort (editing ++ finish 48 1 ∷ []) (search) (λ w. refl) h (48 ∷ []) refl .records 0 (omega arith)) refl
+
+-- recover refuses the log with 12
+writes-in-order : Demand3 writesInOrder → ⊥
+unfolding expected
+writes-in-order h = stuck writesInOrder _ refl (subst (λ (j : List ℕ). Ends writesInOrder (λ i. 0) j) image-is (h image 48 opens cut [] .ends (λ i. 0)))
+  where
+    both : List Call
+    both = begin 1 ∷ write 1 1 (7 ∷ 0 ∷ 0 ∷ 0 ∷ []) ∷ write 1 0 (8 ∷ 0 ∷ 0 ∷ 0 ∷ []) ∷ []
+
+    cut : Cut
+    cut = during both (finish 48 1) 8 (λ n. true)
+
+    image-is : cutImage writesInOrder image 48 cut ≡ arrived (λ n. true) 0 (since both ++ take 8 (exchanged (due 2 4 (expected both .ledger) (finish 48 1) .entries))) image
+    image-is = cut-expected writesInOrder both (search) (finish 48 1) 8 (λ n. true) _ (relisted-entries 4 exchanged both (finish 48 1) refl refl (search))
+
+-- nothing is restored
+compares-with-own : Demand3 comparesWithOwn → ⊥
+unfolding expected
+compares-with-own h = unlike (recovers-behind 4 withoutPairs editing (finish 48 1) refl refl (search) h (48 ∷ []) refl .records 0 (omega arith)) refl
+
+-- recover refuses the log with 12
+full-alone : Demand3 fullAlone → ⊥
+unfolding expected
+full-alone h = stuck fullAlone _ refl (subst (λ (j : List ℕ). Ends fullAlone (λ i. 0) j) image-is (h image 48 opens cut [] .ends (λ i. 0)))
+  where
+    cut : Cut
+    cut = during editing (finish 48 1) 6 (λ n. true)
+
+    image-is : cutImage fullAlone image 48 cut ≡ arrived (λ n. true) 0 (since editing ++ take 6 (due 2 4 (expected editing .ledger) (finish 48 1) .entries)) image
+    image-is = cut-expected fullAlone editing (search) (finish 48 1) 6 (λ n. true) _ (stores-next editing (finish 48 1))
+
+-- what is due of a call, where it is changed along calls that are the store's
+stores-due : (R : Rules) (calls : List Call) → Alike (opening-as R) calls → StoresDue (opening-as R) → (c : Call)
+    → reply (opening-as R) (after calls) c .entries ≡ due 2 4 (expected calls .ledger) c .entries
+stores-due R calls a h c =
+    subst (λ (w : World). reply (opening-as R) w c .entries ≡ due 2 4 (w .ledger) c .entries) (ran R calls a) (h image 48 opens calls c)
+    ∙ ap (λ (v : Seen). due 2 4 (v .ledger) c .entries) (after-expected calls)
+
+-- 16, a fence, the persist number and a fence are due
+full-where-same : StoresDue fullWhereSame → ⊥
+unfolding expected
+full-where-same h =
+    eqb-false _ _ refl
+    (ap {B = ℕ} length (sym (relisted-entries 4 inFull same-words (finish 48 1) refl refl (search)) ∙ stores-due fullWhereSame same-words (search) h (finish 48 1)))
+  where
+    same-words : List Call
+    same-words = begin 1 ∷ write 1 0 (0 ∷ 0 ∷ 0 ∷ 0 ∷ []) ∷ []
+
+-- four words and a fence are due
+settles-changed : StoresDue settlesChanged → ⊥
+unfolding expected
+settles-changed h =
+    eqb-false _ _ refl
+    (ap {B = ℕ} length
+    (sym (ap (λ (y : Reply). y .entries) (changed 6 settlingChanged calls (settle 48 1) refl refl)
+    ∙ ap (differing (after calls .image)) (stores-next calls (settle 48 1))
+    ∙ ap (λ (v : Seen). differing (v .image) (due 2 4 (expected calls .ledger) (settle 48 1) .entries)) (after-expected calls))
+    ∙ stores-due settlesChanged calls (search) h (settle 48 1)))
+  where
+    calls : List Call
+    calls = editing ++ finish 48 1 ∷ publish 48 1 ∷ []
+
+-- a log of two pairs, with number 1: record 0 gets 5 and 6 as its first words
+abbrev two-pairs : List ℕ
+two-pairs = set (set (set (set (set (set (emptyImage 2 1) 12 1) 13 18) 14 0) 15 5) 16 1) 17 6
+
+store-index : Entry → ℕ
+store-index (store i w) = i
+store-index fence = 0
+
+-- word 0 is due first
+replays-backwards : RecoverDue replaysBackwards → ⊥
+unfolding expected firstRefusal holds store-index
+replays-backwards h =
+    eqb-false _ _ refl
+    (ap store-index (h .replays two-pairs 48 0 refl
+    (record { inside = omega arith; occupied = λ e. omega (arith, e); smallest = λ q l n. omega (arith, n); lowest = λ q l n. absurd (omega arith) }) .short 2 refl .words 0 (omega arith)))
+
 -- ---- the rule of a call's list
 
 miscounted : ((img : List ℕ) (e : Desk) (len s : ℕ)
@@ -1017,4 +1113,12 @@ impostors =
       opens-at-clock = opens-at-clock;
       publish-unraised = publish-unraised;
       publish-unfenced = publish-unfenced;
+      loses-pair = loses-pair;
+      writes-in-order = writes-in-order;
+      compares-with-own = compares-with-own;
+      clears-short = clears-short;
+      full-alone = full-alone;
+      full-where-same = full-where-same;
+      settles-changed = settles-changed;
+      replays-backwards = replays-backwards;
     }

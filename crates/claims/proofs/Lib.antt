@@ -27,7 +27,12 @@ pub mod Views
 pub mod CutRecovers
 pub mod Rows
 pub mod Refusals
+pub mod ByEntry
+pub mod Replays
 pub mod RecoverDue
+pub mod FinishDue
+pub mod SettleDue
+pub mod LogFaults
 pub mod Opens
 pub mod CallsRight
 pub mod Demands

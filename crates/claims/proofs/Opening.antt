@@ -143,7 +143,7 @@ module _ (img : List ℕ) (len : ℕ) (o : openTold (openReply img len .answer) 
   inv =
       record {
         positive = omega arith;
-        apart = λ p q i x y n a c. absurd (a .occupied .1 (clean p (a .occupied .0)));
+        apart = λ p q r j l x y lj ll n a c. absurd (a .occupied .1 (clean p (a .occupied .0)));
         bounded = λ p l. let z : getD img (4 + 4 * recordsOf img + 22 * p) 0 ≡ 0 = clean p l in omega arith;
         newer = λ p r j x l a nn. absurd (a .occupied .1 (clean p (a .occupied .0)));
         fine = λ t l. tt;

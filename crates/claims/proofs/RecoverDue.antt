@@ -14,9 +14,9 @@ use Rattle.layout.proofs.Says.{by-test}
 use Rattle.recovery.specs.Recover.{slotsOf, recoverFault, firstLog, cleanB, replayEntries, recoverEntries, recoverDone, recoverReply}
 use Rattle.recovery.specs.Told.{recoverTold}
 use Rattle.recovery.specs.declared.recovering.RecoverReply.{RecoverReply}
-use Rattle.recovery.proofs.Lists.{recover-length}
 use Rattle.claims.specs.Rules.{storeRules}
 use Rattle.claims.specs.Recovering.{numberAt, AllEmpty, ComesFirst, Accepted, RecoverDue}
+use Rattle.claims.proofs.Replays.{full-home, short-home}
 use Rattle.claims.proofs.Lists.{lists}
 use Rattle.claims.proofs.Rows.{recover-row}
 
@@ -75,10 +75,15 @@ module _ (img : List ℕ) (len : ℕ) (z : Accepted img len) where
     told : storeRules .recover img len .told ≡ replayed (numberAt img p)
     told = tells ∙ rw (ne-eqb _ _ some-log, number-same)
 
-pub recover-due : RecoverDue
+pub recover-due : RecoverDue storeRules
 recover-due =
     record {
       cleans = cleans;
       replays = λ img len p z c.
-          (told img len z p c, entries img len z p c, counts img len z ∙ ap length (entries img len z p c) ∙ recover-length img p);
+          record {
+            told = told img len z p c;
+            full = λ l. rw (entries img len z p c) (full-home img p l);
+            short = λ k e. rw (entries img len z p c) (short-home img p k e);
+            count = counts img len z;
+          };
     }

@@ -17,9 +17,9 @@ use Rattle.layout.proofs.BelowLaws.{lowest-more}
 use Rattle.layout.specs.Checks.{first, answered}
 use Rattle.layout.proofs.ChecksLaws.{answered-zero}
 use Rattle.layout.specs.Entries.{Entry, made, endsFenced}
-use Rattle.layout.specs.Image.{recordsOf, sessionsOf, shapedB, homeAt, slotAt, slotWord, persistAt, occupiedAt, ceilingOf}
+use Rattle.layout.specs.Image.{recordsOf, sessionsOf, shapedB, slotAt, slotWord, persistAt, occupiedAt, ceilingOf}
 use Rattle.layout.specs.Told.{Told, refusal, clean, replayed, codeTold}
-use Rattle.journal.specs.Log.{unsoundB, countOf, recOf, wordsOf}
+use Rattle.journal.specs.Log.{unsoundB, usedOf, touchedOf}
 use Rattle.layout.proofs.Least.{Least, oldest-is}
 use Rattle.layout.proofs.Says.{says-any, says-not}
 use Rattle.layout.proofs.Shape.{says-shaped}
@@ -27,16 +27,17 @@ use Rattle.recovery.specs.Recover.{slotsOf, logAt, unsoundPlace, tiedBelow, tie
 use Rattle.recovery.specs.Told.{recoverTold}
 use Rattle.recovery.specs.declared.recovering.RecoverReply.{RecoverReply}
 use Rattle.history.specs.Log.{Occupied, Puts, Clean, Oldest}
-use Rattle.history.specs.Layout.{body, logOf, view, Good}
+use Rattle.history.specs.Layout.{view, Good}
 use Rattle.history.specs.Recover.{replayAt, Reach, whole as to-end, broken as cut-off, reached}
 use Rattle.history.proofs.Cuts.{made-append, crash-behind, arrived-all, ends-append}
-use Rattle.history.proofs.LogForm.{denoted-first}
+use Rattle.history.specs.Desk.{spot}
+use Rattle.history.proofs.LogForm.{Touching, sound-touches}
 use Rattle.history.proofs.Places.{slotAt-apart}
 use Rattle.history.proofs.Theorems.{Carries, step-carries, step-elsewhere, step-empties}
 use Rattle.claims.specs.Rules.{storeRules}
 use Rattle.claims.specs.Recovery.{replays, afterCalls, afterStop, Attempt, afterAttempt, afterAttempts, afterWhole, Ends}
 use Rattle.claims.proofs.Lists.{lists}
-use Rattle.claims.proofs.SameLog.{same-count, same-rec, same-log, same-sound, sound-passes, Tied, says-tied}
+use Rattle.claims.proofs.SameLog.{same-log, same-sound, sound-passes, Tied, says-tied}
 use Rattle.claims.proofs.Steady.{count-changed}
 
 -- header and length are right, for N records and M sessions
@@ -79,25 +80,24 @@ module _ (N M : ℕ) (img : List ℕ) (w : Whole N M img) (g : Good N M img) whe
       (lowest-all (λ p. unsoundB N (slotWord img N p)) (2 * M)
       (λ p l. sound-passes N (slotWord img N p) (λ o. same-sound N img p (g .sound p (occupied p l o)))))
 
-  -- an occupied slot writes the first home word of each of its records
-  puts-first : (p : ℕ) → Occupied (2 * M) (view N img) p → (j : ℕ) → j < 4 → j < countOf (slotWord img N p)
-      → (v : ℕ) × Puts (2 * M) (view N img) p (homeAt (recOf (slotWord img N p) j) + 0) v
-  puts-first p o j four l = (
-    getD (wordsOf (logOf (body N img p)) j) 0 0,
-    record {
-      occupied = o;
-      written = rw (← same-rec N img p j four) (denoted-first (logOf (body N img p)) j (omega (arith, same-count N img p)));
-    },
-  )
+  -- an occupied slot writes a home word of each record that it touches
+  puts-touched : (p : ℕ) (o : Occupied (2 * M) (view N img) p) (r : ℕ) (t : Touching (slotWord img N p) r) → Puts (2 * M) (view N img) p (spot r (t .m)) (t .v)
+  puts-touched p o r t = record { occupied = o; written = rw (same-log N img p (g .sound p o)) (t .written) }
+
+  touching : (p : ℕ) → Occupied (2 * M) (view N img) p → (j : ℕ) → j < usedOf (slotWord img N p) → Touching (slotWord img N p) (touchedOf (slotWord img N p) j)
+  touching p o j l = sound-touches N (slotWord img N p) (same-sound N img p (g .sound p o)) j l
 
   -- so two slots with one number have no record in common
   never-tied : (p q : ℕ) → p < 2 * M → q < p → Tied (slotWord img N p) (slotWord img N q) → ⊥
   never-tied p q l m t =
       let j = t .1 in
       let i = j .2 .1 in
-      let a = puts-first p (occupied p l (t .0 .0)) (j .0) (j .1) (j .2 .0) in
-      let b = puts-first q (occupied q (omega arith) (λ e. t .0 .0 (t .0 .1 ∙ e))) (i .0) (i .1) (i .2 .0) in
-      g .apart p q (homeAt (recOf (slotWord img N p) (j .0)) + 0) (a .0) (b .0) (λ e. omega arith) (a .1) (rw (i .2 .1) at (b .1)) (simp add-zero at (t .0 .1))
+      let op = occupied p l (t .0 .0) in
+      let oq = occupied q (omega arith) (λ e. t .0 .0 (t .0 .1 ∙ e)) in
+      let a = touching p op (j .0) (j .2 .0) in
+      let b = rw (i .2 .1) at (touching q oq (i .0) (i .2 .0)) in
+      g .apart p q (touchedOf (slotWord img N p) (j .0)) (a .m) (b .m) (a .v) (b .v) (a .m<) (b .m<) (λ e. omega arith)
+      (puts-touched p op _ a) (puts-touched q oq _ b) (simp add-zero at (t .0 .1))
 
   -- check 13 passes
   no-ties : tiesB img ≡ false
@@ -155,7 +155,7 @@ module _ (N M : ℕ) (img : List ℕ) (len : ℕ) (w : Whole N M img) (g : Good 
 
   -- else the oldest log is applied, and "replayed"
   log-entries : 48 ≤ len → Oldest (2 * M) (view N img) (firstLog img .place) → firstLog img .number ≢ 0 → recoverEntries img len ≡ replayAt N img (firstLog img .place)
-  log-entries room o n = lists-done room ∙ rw (ne-eqb _ _ n, w .records, ← same-log N img (firstLog img .place) (g .sound (firstLog img .place) (o .occupied) .at-most))
+  log-entries room o n = lists-done room ∙ rw (ne-eqb _ _ n, w .records, ← same-log N img (firstLog img .place) (g .sound (firstLog img .place) (o .occupied)))
 
   log-tells : 48 ≤ len → firstLog img .number ≢ 0 → storeRules .recover img len .told ≡ replayed (firstLog img .number)
   log-tells room n = tells-done room ∙ rw (ne-eqb _ _ n)

@@ -144,7 +144,7 @@ listening-turned img d (Read s r) =
     (listen-read-row img d s r) refl (λ k. refl) (λ k. refl) (read-takes img d s r)
 listening-turned img d (Finish len s) =
     let told : FinishReply → Told = λ r. finishTold (r .answer) in
-    plain img d (listen (Finish len s)) told (λ r. r .desk) (finishRefused d) (finishDone d s) (listen-finish-row img d len s) refl (λ k. refl) (λ k. refl)
+    plain img d (listen (Finish len s)) told (λ r. r .desk) (finishRefused d) (finishDone img d s) (listen-finish-row img d len s) refl (λ k. refl) (λ k. refl)
     (either told (eqb (sessionAt d s .count) 0) _ _ refl refl)
 listening-turned img d (Find s k) =
     plain img d (listen (Find s k)) (λ (x : FindReply). findTold (x .answer)) (λ x. x .desk) (findRefused d) (findDone img d s k)
@@ -174,7 +174,7 @@ calls img d (write s r ws) =
     (valued told 7 (markAt d r - 1) _ (λ k. writeSays d (WriteRefused k)) refl (λ k. refl) k) (by-test (eqb k 7) (λ e. rw e) (λ e. rw e)) refl
 calls img d (finish len s) =
     let told : FinishReply → Told = λ r. finishTold (r .answer) in
-    plain img d (finish len s) told (λ r. r .desk) (finishRefused d) (finishDone d s) (finish-row img d len s) refl (λ k. refl) (λ k. refl)
+    plain img d (finish len s) told (λ r. r .desk) (finishRefused d) (finishDone img d s) (finish-row img d len s) refl (λ k. refl) (λ k. refl)
     (either told (eqb (sessionAt d s .count) 0) _ _ refl refl)
 calls img d (settle len s) =
     let told : SettleReply → Told = λ r. settleTold (r .answer) in

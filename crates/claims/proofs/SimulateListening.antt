@@ -112,7 +112,7 @@ module _ (N M : ℕ) (img : List ℕ) (d : Desk) (f : ℕ → ℕ) (hist : Histo
           tells = λ r. finishTold (r .answer);
           left = λ r. r .desk;
           refused = finishRefused d;
-          done = finishDone d s;
+          done = finishDone img d s;
           listed = [];
           refuses = λ k. refl;
           keeps = λ k. refl;

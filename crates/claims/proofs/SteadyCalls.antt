@@ -136,7 +136,7 @@ write-kept img d s r ws h =
 pub finish-kept : (img : List ℕ) (d : Desk) (len s : ℕ) → Steady d → Kept d (finishReply img d len s .desk)
 unfolding finishReply finishFault unmarked
 finish-kept img d len s h =
-    by-answer (λ r. Kept d (r .desk)) (finishFault img d len s) (finishRefused d) (finishDone d s) (unchanged d h)
+    by-answer (λ r. Kept d (r .desk)) (finishFault img d len s) (finishRefused d) (finishDone img d s) (unchanged d h)
     (λ z. let f = first-both (imageFault img d (roomFor len) s) _ z in
     let e = image-entered img d (roomFor len) s (f .0) in
     let g = first-both (unless (isActive (sessionAt d s .phase)) 6) _ (f .1) in
@@ -162,7 +162,7 @@ settle-kept img d len s h =
 pub listen-finish-kept : (img : List ℕ) (d : Desk) (len s : ℕ) → Steady d → Kept d (listenFinishReply img d len s .desk)
 unfolding listenFinishReply
 listen-finish-kept img d len s h =
-    by-answer (λ r. Kept d (r .desk)) (listenerFault img d (roomFor len) s) (finishRefused d) (finishDone d s) (unchanged d h)
+    by-answer (λ r. Kept d (r .desk)) (listenerFault img d (roomFor len) s) (finishRefused d) (finishDone img d s) (unchanged d h)
     (λ z. rw (finish-done img d len s z) at (finish-kept img d len s h))
 
 -- read, with whatever checks, leaves the desk as it is

@@ -84,6 +84,17 @@ cutAfter k = crashed k (λ n. true) (finishEntries image (finishing 3) 48 0) ima
 abbrev pub settled : ℕ → List ℕ
 settled p = withSlot 0 0 5 (withSlot 2 0 p image)
 
+-- a copy that differs from its home record in one word (document 02, Req 08): its log is a short one
+abbrev pub oneWord : Phase → Session
+oneWord p =
+    record { phase = p; count = 1; slot = 0; copies = record { rec = 0; words = 0 ∷ 6 ∷ 0 ∷ 0 ∷ [] } ∷ zeroCopy ∷ zeroCopy ∷ zeroCopy ∷ [] }
+
+abbrev pub editing : Desk
+editing = deskOf 3 oneMark (oneWord (Active 1)) idleSession
+
+abbrev pub cutShort : ℕ → List ℕ
+cutShort k = crashed k (λ n. true) (finishEntries image editing 48 0) image
+
 pub record Edges : Type 0 where
   -- A: N 256, M 16: 1,732 words pass, 1,731 give 1
   pub a-lay : layTold (layAnswer 256 16 (replicate 1732 9)) ≡ ok
@@ -104,9 +115,15 @@ pub record Edges : Type 0 where
   pub g-seals : finishReply image (finishing (limit - 1)) 48 0 .answer ≡ SealedAt (limit - 1)
   pub g-refused : finishTold (finishReply image (finishing limit) 48 0 .answer) ≡ refusal 10
   pub g-limit : limit ≡ 4611686018427387904
-  -- H: one copy, 7 entries arrive: no log to replay; I: 8 arrive: replayed
+  -- H: one copy, which differs from its home record in all four words (document 02, Req 08), 7 entries arrive: no log to replay; I: 8
+  -- arrive: replayed
   pub h : recoverReply (cutAfter 7) 48 .answer ≡ Clean
   pub i : recoverReply (cutAfter 8) 48 .answer ≡ Replayed 3
+  -- the same of a copy that differs in one word: 6 entries in place of 9, of which 4 arrive, and 5
+  pub h-short : recoverReply (cutShort 4) 48 .answer ≡ Clean
+  pub i-short : recoverReply (cutShort 5) 48 .answer ≡ Replayed 3
+  pub hi-entries : finishReply image (finishing 3) 48 0 .entries ≡ 9
+  pub hi-short-entries : finishReply image editing 48 0 .entries ≡ 6
   -- J: persist 5 settled, another slot at 4: held; K: another slot at 5: cleared
   pub j : reclaimReply (settled 4) (freshDesk 5 8 2) 48 0 .answer ≡ Held 4
   pub k : reclaimReply (settled 5) (freshDesk 5 8 2) 48 0 .answer ≡ Cleared 5

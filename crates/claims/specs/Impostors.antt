@@ -4,11 +4,11 @@
 use Prim.Native.Nat.{ℕ, zero, suc, _+_, _-_}
 use mathlib.Core.Bool.{Bool, _&&_, _||_, not, cond}
 use mathlib.Core.List.{List, [], _∷_, _++_}
-use lib.ListN.{length, getD, set as put}
+use lib.ListN.{length, getD, take, drop, set as put}
 use lib.Dec.{eqb, leb, ltb}
 use Rattle.layout.specs.Below.{allBelow, anyBelow, countBelow, lowest}
-use Rattle.layout.specs.Entries.{Entry, store, fence}
-use Rattle.layout.specs.Image.{recordsOf, homeWords, slotAt, persistAt, occupiedAt}
+use Rattle.layout.specs.Entries.{Entry, store, fence, Write, stores}
+use Rattle.layout.specs.Image.{word, recordsOf, homeWords, slotAt, persistAt, occupiedAt}
 use Rattle.layout.specs.Oldest.{oldestOf}
 use Rattle.layout.specs.Tidy.{Tidy}
 use Rattle.layout.specs.Told.{Told, refused, result, refusal, copied, home, wait, nothing, held, cleared, clean, replayed, foundAt, is, isRefusal, refusedBy, wordsTold, Ok, Copy, Home, Wait, Held}
@@ -23,10 +23,12 @@ use Rattle.snapshot.specs.Read.{startOf, holderEntry}
 use Rattle.commit.specs.Finish.{finishFault}
 use Rattle.commit.specs.Settle.{endOf, startsFor}
 use Rattle.commit.specs.Reclaim.{chosen, clearEntries}
-use Rattle.recovery.specs.Recover.{slotsOf, cleanB, firstLog, replayEntries}
+use Rattle.recovery.specs.Recover.{slotsOf, logAt, cleanB, firstLog, replayEntries}
+use Rattle.journal.specs.Log.{countOf, shortB, denoted}
 use Rattle.history.specs.Call.{Listening, Begin, Read, Finish, Find, Call, begin, read, write, abandon, finish, publish, group, settle, reclaim, listen}
 use Rattle.claims.specs.Rules.{Reply, Recovery, Rules, tells, searching, storeRules}
-use Rattle.claims.specs.Demands.{Demand2, OpeningStores, PublishStores, Demand3}
+use Rattle.claims.specs.Demands.{Demand2, OpeningStores, PublishStores, StoresDue, Demand3}
+use Rattle.claims.specs.Recovering.{RecoverDue}
 use Rattle.claims.specs.Fresh.{Fresh}
 use Rattle.claims.specs.Together.{GroupStores}
 
@@ -429,6 +431,100 @@ publishingSome k other img d c y =
 abbrev pub publishesSome : ℕ → Change → Rules
 publishesSome k other = changing (publishingSome k other)
 
+-- ---- impostors that break document 02's Req 08
+
+-- a finish that leaves the pair out of a short log of one
+abbrev pub withoutPair : List Entry → List Entry
+withoutPair [] = []
+withoutPair (store i w ∷ es) = cond (eqb w 17) (store i 16 ∷ drop 2 es) (store i w ∷ es)
+withoutPair (fence ∷ es) = fence ∷ es
+
+abbrev pub losesPair : Rules
+losesPair = past 4 (relisting withoutPair)
+
+-- a finish that lists the words in the order of first writes, not in ascending index: two pairs change places
+abbrev pub placed : (ℕ → ℕ) → List Entry → List Entry
+placed g [] = []
+placed g (store i w ∷ es) = store (g i) w ∷ placed g es
+placed g (fence ∷ es) = fence ∷ placed g es
+
+abbrev pub exchanged : List Entry → List Entry
+exchanged [] = []
+exchanged (store i w ∷ es) =
+    cond (eqb w 18) (store i w ∷ (placed (λ j. j - 2) (take 2 (drop 2 es)) ++ (placed (λ j. j + 2) (take 2 es) ++ drop 4 es))) (store i w ∷ es)
+exchanged (fence ∷ es) = fence ∷ es
+
+abbrev pub writesInOrder : Rules
+writesInOrder = past 4 (relisting exchanged)
+
+-- a finish that compares the copies with what the session itself reads, where nothing differs: a log without pairs
+abbrev pub fromFence : List Entry → List Entry
+fromFence [] = []
+fromFence (store i w ∷ es) = fromFence es
+fromFence (fence ∷ es) = fence ∷ es
+
+abbrev pub withoutPairs : List Entry → List Entry
+withoutPairs [] = []
+withoutPairs (store i w ∷ es) = store i 16 ∷ fromFence es
+withoutPairs (fence ∷ es) = fence ∷ es
+
+abbrev pub comparesWithOwn : Rules
+comparesWithOwn = past 4 (relisting withoutPairs)
+
+-- a finish that takes the full form where no word differs; here of record 0, with four zeros
+abbrev pub inFull : List Entry → List Entry
+inFull [] = []
+inFull (store i w ∷ es) =
+    cond (eqb w 16) (store i 1 ∷ store (i + 1) 0 ∷ store (i + 2) 0 ∷ store (i + 3) 0 ∷ store (i + 4) 0 ∷ store (i + 5) 0 ∷ es) (store i w ∷ es)
+inFull (fence ∷ es) = fence ∷ es
+
+abbrev pub fullWhereSame : Rules
+fullWhereSame = past 4 (relisting inFull)
+
+-- a recover that takes this list of writes, in place of what a short log denotes
+abbrev pub replayingShort : (List Write → List Write) → Rules
+replayingShort g =
+    replaying (λ img. firstLog img .place)
+    (λ img. let p = firstLog img .place in
+    stores (cond (shortB (logAt img p)) (g (denoted (logAt img p))) (denoted (logAt img p))) ++ (fence ∷ store (slotAt (recordsOf img) p) 0 ∷ fence ∷ []))
+
+-- none of them; and from the last to the first
+abbrev pub clearsShort : Rules
+clearsShort = replayingShort (λ ws. [])
+
+abbrev pub backwards : List Write → List Write
+backwards [] = []
+backwards (x ∷ ws) = backwards ws ++ (x ∷ [])
+
+abbrev pub replaysBackwards : Rules
+replaysBackwards = replayingShort backwards
+
+-- a recover that takes every log for a full one, and refuses a count above 4 with 12
+abbrev pub overFour : List ℕ → ℕ → Bool
+overFour img p = occupiedAt img (recordsOf img) p && ltb 4 (countOf (logAt img p))
+
+abbrev pub fullAlone : Rules
+fullAlone =
+    record {
+      opens = storeRules .opens;
+      call = storeRules .call;
+      recover = λ img len.
+          let p = lowest (slotsOf img) (overFour img) in
+          cond (ltb p (slotsOf img)) (recovery (refused 12 p) []) (storeRules .recover img len);
+    }
+
+-- a settle that stores only the words that differ from home
+abbrev pub differing : List ℕ → List Entry → List Entry
+differing img [] = []
+differing img (store i w ∷ es) = cond (eqb (word img i) w) (differing img es) (store i w ∷ differing img es)
+differing img (fence ∷ es) = fence ∷ differing img es
+
+abbrev pub settlingChanged : Change
+settlingChanged img d c y = storing (differing img (y .entries)) y
+
+abbrev pub settlesChanged : Rules
+settlesChanged = past 6 settlingChanged
+
 -- ---- the claim
 
 pub record Impostors : Type 0 where
@@ -485,3 +581,15 @@ pub record Impostors : Type 0 where
   pub publish-unraised : PublishStores (past 5 (relisting (λ es. []))) → ⊥
   pub publish-unfenced : ((img : List ℕ) (d : Desk) (len s : ℕ)
       → Tidy (publishFault img d len s) (unfencedAt 5 .call img d (publish len s) .count) (unfencedAt 5 .call img d (publish len s) .entries)) → ⊥
+  -- a pair left out of a short log; pairs that do not ascend; none, since the copies are compared with themselves; a short log that is
+  -- cleared, or refused as a full one
+  pub loses-pair : Demand3 losesPair → ⊥
+  pub writes-in-order : Demand3 writesInOrder → ⊥
+  pub compares-with-own : Demand3 comparesWithOwn → ⊥
+  pub clears-short : Demand3 clearsShort → ⊥
+  pub full-alone : Demand3 fullAlone → ⊥
+  -- what no power failure shows: the full form where no word differs; a settle that leaves out equal words; a short log replayed from its
+  -- last pair to its first
+  pub full-where-same : StoresDue fullWhereSame → ⊥
+  pub settles-changed : StoresDue settlesChanged → ⊥
+  pub replays-backwards : RecoverDue replaysBackwards → ⊥

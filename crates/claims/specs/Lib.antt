@@ -13,3 +13,7 @@ pub mod Opens
 pub mod Lists
 pub mod Impostors
 pub mod ReelsBack
+pub mod ByEntry
+pub mod FinishDue
+pub mod SettleDue
+pub mod LogFaults

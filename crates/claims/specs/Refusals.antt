@@ -1,4 +1,4 @@
--- Document 01, "What is turned away", with document 02's Req 03, 05 and 06, as one table: the causes with their numbers, and
+-- Document 01, "What is turned away", with document 02's Req 03, 05, 06 and 08, as one table: the causes with their numbers, and
 -- for each call the row of causes that it asks, in order. The number told is that of the first cause in the row that holds, 0 where none
 -- does; with it go the values that the table lists, and a refusal leaves as it was what the table says.
 use Prim.Native.Nat.{ℕ, _+_, _-_, _*_}
@@ -109,11 +109,11 @@ copiesCounted g = sessionAt (g .desk) (g .session) .count
 abbrev pub slotTaken : Given → ℕ → Bool
 slotTaken g q = occupiedAt (g .image) (g .desk .n) (placeOf (g .session) q)
 
--- the occupied slot at place p has count 0 or above 4, a record at or above N, or a record twice
+-- the log at place p is not sound, in the full form or the short one; `LogFaults` has which these are
 abbrev pub unsoundAt : List ℕ → ℕ → Bool
 unsoundAt img p = unsoundB (recordsOf img) (slotWord img (recordsOf img) p)
 
--- two occupied slots, equal persist numbers, a record in common
+-- two logs, of any forms, have equal persist numbers and touch a record in common
 abbrev pub tiedAt : List ℕ → ℕ → ℕ → Bool
 tiedAt img p q = tiedB (slotWord img (recordsOf img) p) (slotWord img (recordsOf img) q)
 

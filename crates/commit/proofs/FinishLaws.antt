@@ -1,27 +1,30 @@
 -- Finish, case by case.
-use Prim.Native.Nat.{ℕ, _+_, _-_, _<_, _≤_}
+use Prim.Native.Nat.{ℕ, _+_, _*_, _-_, _<_, _≤_}
 use mathlib.Core.Bool.{_||_}
 use mathlib.Core.Path.{_≡_, sym, ap, _∙_}
 use mathlib.Core.List.{List, [], _++_}
 use native.Mathlib.Omega.{arith}
 use lib.Dec.{ltb, eqb}
-use lib.ListN.{length, take, drop}
+use lib.ListN.{length, getD, take, drop}
 use borrow.Author.Tests.{eq-eqb, ne-eqb, leb-true}
 use Rattle.layout.specs.Checks.{unless, first}
 use Rattle.layout.proofs.ChecksLaws.{answered-refused, answered-passed, answered-zero, answered-not}
 use Rattle.layout.specs.Entries.{Entry, shift, made, listed}
-use Rattle.layout.specs.Image.{placeOf, slotAt}
-use Rattle.journal.specs.Lengths.{finishLength}
-use Rattle.journal.specs.Log.{logEntries}
+use Rattle.layout.specs.Image.{homeWords, placeOf, slotAt}
+use Rattle.journal.specs.Changes.{Gathered}
+use Rattle.journal.specs.Lengths.{sealLength}
+use Rattle.journal.specs.Log.{eitherBody, sealedBody, logEntries}
+use Rattle.journal.proofs.GatheredLaws.{gathered-body, gathered-length}
 use Rattle.layout.proofs.TraceLaws.{made-tail}
 use Rattle.desk.specs.Desk.{copiedRec, copiedWords, sessionAt, isActive, idleSession, withPhase, putSession}
 use Rattle.desk.specs.Coherent.{limit}
 use Rattle.desk.specs.declared.state.Phase.the-variants.{Sealed}
 use Rattle.desk.specs.declared.state.Desk.{Desk}
-use Rattle.desk.proofs.Copied.{copies-four}
+use Rattle.desk.proofs.Copied.{copies-four, copies-below, copies-differ}
+use Rattle.layout.proofs.Groups.{Differ}
 use Rattle.desk.specs.Entering.{imageFault}
 use Rattle.layout.specs.Checks.{roomFor}
-use Rattle.commit.specs.Finish.{finishFault, sealEntries, finishEntries, finishRefused, finishReply, finishSaid}
+use Rattle.commit.specs.Finish.{finishFault, sealEntries, finishEntries, finishRefused, finishReply, finishSaid, changedWords}
 use Rattle.commit.specs.Told.{finishTold}
 use Rattle.commit.proofs.ToldLaws.{finish-tells}
 use Rattle.commit.specs.declared.finishing.FinishAnswer.the-variants.{Empty, Sealed as SealedAt}
@@ -34,6 +37,8 @@ pub record SlotFits (img : List ℕ) (d : Desk) (len s : ℕ) : Type 0 where
   pub n-high : d .n ≤ 256
   pub place-high : placeOf s (sessionAt d s .slot) ≤ 32
   pub count-high : sessionAt d s .count ≤ 4
+  pub copied : (j : ℕ) → j < sessionAt d s .count → copiedRec (sessionAt d s) j < d .n
+  pub apart : Differ (copiedRec (sessionAt d s)) (sessionAt d s .count)
   pub inside : slotAt (d .n) (placeOf s (sessionAt d s .slot)) + 22 ≤ length img
   pub room : 48 ≤ len
 
@@ -46,6 +51,8 @@ slot-fits img d len s z =
       n-high = h .coherent .n-high;
       place-high = omega (arith, h .small);
       count-high = copies-four d (h .coherent) s (h .small);
+      copied = copies-below d (h .coherent) s (h .small);
+      apart = copies-differ d (h .coherent) s (h .small);
       inside = omega (arith, h .below, h .n-same, h .m-same, h .shaped .size);
       room = leb-true _ _ (h .room-enough);
     }
@@ -99,8 +106,8 @@ module _ (img : List ℕ) (d : Desk) (len s : ℕ) where
       -- with copies
       pub finish-sealed : (sessionAt d s .count ≡ 0 → ⊥)
           → Finishes img d len s
-          (record { answer = SealedAt (d .clock); entries = finishLength (sessionAt d s .count); desk = putSession d s (withPhase (sessionAt d s) (Sealed (d .clock))) })
-          (sealEntries d s)
+          (record { answer = SealedAt (d .clock); entries = sealLength (length (changedWords img d s)) (sessionAt d s .count); desk = putSession d s (withPhase (sessionAt d s) (Sealed (d .clock))) })
+          (sealEntries img d s)
       unfolding finishReply finishEntries finishFault
       finish-sealed n =
           record {
@@ -108,16 +115,31 @@ module _ (img : List ℕ) (d : Desk) (len s : ℕ) where
             lists = answered-passed _ _ (λ k. []) _ z ∙ answered-zero _ (λ k. []) _ y ∙ rw (ne-eqb _ 0 n);
           }
 
-module _ (d : Desk) (s : ℕ) where
+module _ (img : List ℕ) (d : Desk) (s : ℕ) where
   -- the session's log, by places in its slot
   abbrev log : List Entry
-  log = logEntries (d .clock) (copiedRec (sessionAt d s)) (copiedWords (sessionAt d s)) (sessionAt d s .count)
+  log = logEntries (d .n) (homeWords img) (d .clock) (copiedRec (sessionAt d s)) (copiedWords (sessionAt d s)) (sessionAt d s .count)
 
-  module _ (from : ℕ) (e : from ≡ slotAt (d .n) (placeOf s (sessionAt d s .slot))) where
-    -- written to the part of the image that starts at the slot
-    pub sealed-image : (img part : List ℕ) → part ≡ made log (take (length img - from) (drop from img))
-        → take from img ++ (part ++ drop (length img - from) (drop from img)) ≡ made (sealEntries d s) img
-    sealed-image img part m = made-tail from log img part m ∙ ap (λ b. made (shift b log) img) e
+  -- what is gathered
+  abbrev Found : List ℕ → List ℕ → ℕ → Type 0
+  Found pairs pairs′ k = Gathered (changedWords img d s) (sessionAt d s .count) pairs pairs′ k
 
-    pub sealed-trace : (t t′ : List ℕ) → t′ ≡ listed (shift from log) t → t′ ≡ listed (sealEntries d s) t
-    sealed-trace t t′ l = l ∙ ap (λ b. listed (shift b log) t) e
+  -- the log as it is written of what was gathered
+  abbrev found : List ℕ → ℕ → List Entry
+  found pairs k = sealedBody (d .clock) (eitherBody (λ j. getD pairs (2 * j) 0) (λ j. getD pairs (2 * j + 1) 0) k (copiedRec (sessionAt d s)) (copiedWords (sessionAt d s)) (sessionAt d s .count))
+
+  module _ {pairs pairs′ : List ℕ} {k : ℕ} (few : sessionAt d s .count ≤ 4) (g : Found pairs pairs′ k) (long : length pairs ≡ 26) where
+    found-log : found pairs′ k ≡ log
+    found-log = ap (sealedBody (d .clock)) (gathered-body (copiedRec (sessionAt d s)) (copiedWords (sessionAt d s)) few long g)
+
+    pub found-length : sealLength k (sessionAt d s .count) ≡ sealLength (length (changedWords img d s)) (sessionAt d s .count)
+    found-length = gathered-length few long g
+
+    module _ (from : ℕ) (e : from ≡ slotAt (d .n) (placeOf s (sessionAt d s .slot))) where
+      -- written to the part of the image that starts at the slot
+      pub sealed-image : (part : List ℕ) → part ≡ made (found pairs′ k) (take (length img - from) (drop from img))
+          → take from img ++ (part ++ drop (length img - from) (drop from img)) ≡ made (sealEntries img d s) img
+      sealed-image part m = made-tail from log img part (rw found-log at m) ∙ ap (λ b. made (shift b log) img) e
+
+      pub sealed-trace : (t t′ : List ℕ) → t′ ≡ listed (shift from (found pairs′ k)) t → t′ ≡ listed (sealEntries img d s) t
+      sealed-trace t t′ l = (rw found-log at l) ∙ ap (λ b. listed (shift b log) t) e

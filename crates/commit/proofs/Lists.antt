@@ -1,6 +1,6 @@
 -- Every list of entries of finish, settle and reclaim is tidy.
 use Prim.Native.Nat.{ℕ, _+_, _*_}
-use mathlib.Core.Bool.{or-true}
+use mathlib.Core.Bool.{or-true, cond}
 use mathlib.Core.Path.{_≡_, refl, sym, _∙_}
 use mathlib.Core.List.{List, [], _∷_}
 use native.Mathlib.Omega.{arith}
@@ -10,54 +10,61 @@ use borrow.Author.Tests.{eqb-false}
 use Rattle.layout.specs.Entries.{Entry, fence, Write, stores}
 use Rattle.layout.specs.Homes.{homesWrites}
 use Rattle.layout.specs.Checks.{roomFor}
-use Rattle.layout.specs.Image.{placeOf, slotAt}
+use Rattle.layout.specs.Image.{homeWords, placeOf, slotAt}
 use Rattle.layout.specs.Tidy.{Tidy}
 use Rattle.layout.proofs.ChecksLaws.{first-both, unless-zero}
 use Rattle.layout.proofs.TraceLaws.{length-shift}
 use Rattle.layout.proofs.TidyLaws.{tidy-none, tidy-cond, tidy-answered, tidy-list}
 use Rattle.layout.proofs.Groups.{homes-distinct, length-homes, length-stores, once-group, once-shift, ends-append, ends-shift}
-use Rattle.journal.specs.Lengths.{finishLength, settleLength}
-use Rattle.journal.specs.Log.{logEntries}
-use Rattle.journal.proofs.LengthLaws.{finish-formula, settle-formula}
-use Rattle.journal.proofs.LogGroups.{log-length, log-once, log-ends}
+use Rattle.journal.specs.Lengths.{settleLength, sealLength}
+use Rattle.journal.specs.Log.{indexIn, wordIn, shorterB, logEntries}
+use Rattle.journal.proofs.LengthLaws.{settle-formula}
+use Rattle.journal.proofs.LogGroups.{either-length, either-counted, either-few, either-once, either-ends}
 use Rattle.desk.specs.Desk.{copiedRec, copiedWords, sessionAt, isSealed, isPublished}
 use Rattle.desk.specs.Entering.{imageFault}
 use Rattle.desk.specs.declared.state.Desk.{Desk}
 use Rattle.desk.proofs.Copied.{copies-four, copies-some, copies-differ}
 use Rattle.desk.proofs.Entered.{entered}
-use Rattle.commit.specs.Finish.{finishFault, finishEntries, sealEntries, finishRefused, finishReply}
+use Rattle.commit.specs.Finish.{finishFault, finishEntries, changedWords, sealEntries, finishRefused, finishReply}
 use Rattle.commit.specs.Settle.{settleFault, settleEntries, goHomeEntries, waitsB, settleRefused, settleReply}
 use Rattle.commit.specs.Reclaim.{reclaimFault, reclaimEntries, clearEntries, noneLeft, heldB, reclaimRefused, reclaimReply}
 use Rattle.commit.specs.declared.finishing.FinishReply.{FinishReply}
 use Rattle.commit.specs.declared.settling.SettleReply.{SettleReply}
 use Rattle.commit.specs.declared.reclaiming.ReclaimReply.{ReclaimReply}
 
-pub finish-length : (d : Desk) (s : ℕ) → length (sealEntries d s) ≡ 5 * sessionAt d s .count + 4
-finish-length d s =
-    length-shift (slotAt (d .n) (placeOf s (sessionAt d s .slot))) (logEntries (d .clock) (copiedRec (sessionAt d s)) (copiedWords (sessionAt d s)) (sessionAt d s .count))
-    ∙ log-length (d .clock) (copiedRec (sessionAt d s)) (copiedWords (sessionAt d s)) (sessionAt d s .count)
+pub finish-length : (img : List ℕ) (d : Desk) (s : ℕ) → let k = length (changedWords img d s) in
+    length (sealEntries img d s) ≡ cond (shorterB k (sessionAt d s .count)) (2 * k + 4) (5 * sessionAt d s .count + 4)
+finish-length img d s =
+    let ws = changedWords img d s in
+    length-shift (slotAt (d .n) (placeOf s (sessionAt d s .slot)))
+    (logEntries (d .n) (homeWords img) (d .clock) (copiedRec (sessionAt d s)) (copiedWords (sessionAt d s)) (sessionAt d s .count))
+    ∙ either-length (indexIn ws) (wordIn ws) (length ws) (copiedRec (sessionAt d s)) (copiedWords (sessionAt d s)) (sessionAt d s .count) (d .clock)
 
 pub finish-tidy : (img : List ℕ) (d : Desk) (len s : ℕ) → Tidy (finishFault img d len s) (finishReply img d len s .entries) (finishEntries img d len s)
 unfolding finishReply finishEntries finishFault
 finish-tidy img d len s =
     tidy-answered (λ (r : FinishReply). r .entries) (finishFault img d len s) (finishRefused d) _ _ (λ k. refl)
-    (λ z. tidy-cond (λ (r : FinishReply). r .entries) (eqb (sessionAt d s .count) 0) _ _ [] (sealEntries d s) (λ e. tidy-none 0 refl) (λ e. seals z (eqb-false _ _ e)))
+    (λ z. tidy-cond (λ (r : FinishReply). r .entries) (eqb (sessionAt d s .count) 0) _ _ [] (sealEntries img d s) (λ e. tidy-none 0 refl) (λ e. seals z (eqb-false _ _ e)))
   where
     base : ℕ
     base = slotAt (d .n) (placeOf s (sessionAt d s .slot))
 
-    log : List Entry
-    log = logEntries (d .clock) (copiedRec (sessionAt d s)) (copiedWords (sessionAt d s)) (sessionAt d s .count)
+    ws : List Write
+    ws = changedWords img d s
 
-    seals : finishFault img d len s ≡ 0 → (sessionAt d s .count ≡ 0 → ⊥) → Tidy 0 (finishLength (sessionAt d s .count)) (sealEntries d s)
+    log : List Entry
+    log = logEntries (d .n) (homeWords img) (d .clock) (copiedRec (sessionAt d s)) (copiedWords (sessionAt d s)) (sessionAt d s .count)
+
+    seals : finishFault img d len s ≡ 0 → (sessionAt d s .count ≡ 0 → ⊥) → Tidy 0 (sealLength (length (changedWords img d s)) (sessionAt d s .count)) (sealEntries img d s)
     seals z n =
         let e = entered img d (roomFor len) s (first-both (imageFault img d (roomFor len) s) _ z .0) in
         let few = copies-four d (e .coherent) s (e .small) in
-        tidy-list _ (sealEntries d s)
-        (finish-formula (sessionAt d s .count) (omega (arith, n)) few ∙ sym (finish-length d s))
-        (omega (arith, finish-length d s, few))
-        (once-shift base log ∙ log-once (d .clock) (copiedRec (sessionAt d s)) (copiedWords (sessionAt d s)) (sessionAt d s .count))
-        (ends-shift base log ∙ log-ends (d .clock) (copiedRec (sessionAt d s)) (copiedWords (sessionAt d s)) (sessionAt d s .count))
+        let long = length-shift base log in
+        tidy-list _ (sealEntries img d s)
+        (either-counted (indexIn ws) (wordIn ws) (length ws) (copiedRec (sessionAt d s)) (copiedWords (sessionAt d s)) (sessionAt d s .count) (d .clock) (omega (arith, n)) few ∙ sym long)
+        (omega (arith, long, either-few (indexIn ws) (wordIn ws) (length ws) (copiedRec (sessionAt d s)) (copiedWords (sessionAt d s)) (sessionAt d s .count) (d .clock) few))
+        (once-shift base log ∙ either-once (indexIn ws) (wordIn ws) (length ws) (copiedRec (sessionAt d s)) (copiedWords (sessionAt d s)) (sessionAt d s .count) (d .clock))
+        (ends-shift base log ∙ either-ends (indexIn ws) (wordIn ws) (length ws) (copiedRec (sessionAt d s)) (copiedWords (sessionAt d s)) (sessionAt d s .count) (d .clock))
 
 pub settle-length : (d : Desk) (s : ℕ) → length (goHomeEntries d s) ≡ 4 * sessionAt d s .count + 1
 settle-length d s =

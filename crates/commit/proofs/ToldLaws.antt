@@ -25,7 +25,7 @@ reclaims r = reclaimTold (r .answer)
 module _ (img : List ℕ) (d : Desk) (len s : ℕ) where
   pub finish-told : finishes (finishReply img d len s) ≡ finishSaid img d len s
   unfolding finishReply finishSaid
-  finish-told = answered-map finishes _ (finishRefused d) (finishDone d s) (λ k. refl) (simp (cond-map finishes))
+  finish-told = answered-map finishes _ (finishRefused d) (finishDone img d s) (λ k. refl) (simp (cond-map finishes))
 
   pub finish-tells : {r : FinishReply} {I T : Type 0} → (r ≡ finishReply img d len s) × (I × T)
       → (r ≡ finishReply img d len s) × (I × (T × (finishes r ≡ finishSaid img d len s)))

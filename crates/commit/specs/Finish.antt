@@ -1,15 +1,18 @@
--- Finish (document 01): active only. Without copies the session is idle and the answer is "empty", no stores. With c copies the list is
--- count and copies, a fence, the persist number, a fence: 5c + 4 entries. The persist number is the clock. The session is sealed. Checks 1,
--- 2, 3, 4, 6, 10.
+-- Finish (document 01): active only. A session without copies becomes idle and is told "empty", and nothing is stored. Else it is sealed,
+-- with the clock as persist number. Of c copies, k words of which differ from their home records, the log is a short one when 2k is less
+-- than 5c (document 02, Req 08): 16 + k and the pairs, a fence, the persist number, a fence, 2k + 4 entries. Else it is a full one: the
+-- count and the copies, then the same, 5c + 4 entries. Checks 1, 2, 3, 4, 6, 10.
 use Prim.Native.Nat.{ℕ}
 use mathlib.Core.Bool.{_||_, cond}
 use mathlib.Core.List.{List, []}
 use lib.Dec.{ltb, eqb}
+use lib.ListN.{length}
 use Rattle.layout.specs.Checks.{unless, first, answered}
-use Rattle.layout.specs.Entries.{Entry, shift}
-use Rattle.journal.specs.Lengths.{finishLength}
+use Rattle.layout.specs.Entries.{Entry, Write, shift}
+use Rattle.journal.specs.Changes.{changesBelow}
+use Rattle.journal.specs.Lengths.{sealLength}
 use Rattle.journal.specs.Log.{logEntries}
-use Rattle.layout.specs.Image.{placeOf, slotAt}
+use Rattle.layout.specs.Image.{homeWords, placeOf, slotAt}
 use Rattle.desk.specs.Desk.{copiedRec, copiedWords, sessionAt, isActive, idleSession, withPhase, putSession}
 use Rattle.desk.specs.Coherent.{limit}
 use Rattle.desk.specs.declared.state.Phase.the-variants.{Sealed}
@@ -26,32 +29,37 @@ finishFault img d len s =
     first (imageFault img d (roomFor len) s)
     (first (unless (isActive (sessionAt d s .phase)) 6) (unless (eqb (sessionAt d s .count) 0 || ltb (d .clock) limit) 10))
 
+-- the words of the session's copies that differ from their home records, in ascending index
+abbrev pub changedWords : List ℕ → Desk → ℕ → List Write
+changedWords img d s =
+    changesBelow (homeWords img) (copiedRec (sessionAt d s)) (copiedWords (sessionAt d s)) (sessionAt d s .count) (d .n)
+
 -- the log of session s, in the slot reserved for it
-abbrev pub sealEntries : Desk → ℕ → List Entry
-sealEntries d s =
+abbrev pub sealEntries : List ℕ → Desk → ℕ → List Entry
+sealEntries img d s =
     shift (slotAt (d .n) (placeOf s (sessionAt d s .slot)))
-    (logEntries (d .clock) (copiedRec (sessionAt d s)) (copiedWords (sessionAt d s)) (sessionAt d s .count))
+    (logEntries (d .n) (homeWords img) (d .clock) (copiedRec (sessionAt d s)) (copiedWords (sessionAt d s)) (sessionAt d s .count))
 
 unfoldable pub finishEntries : List ℕ → Desk → ℕ → ℕ → List Entry
 finishEntries img d len s =
-    answered (finishFault img d len s) (λ k. []) (cond (eqb (sessionAt d s .count) 0) [] (sealEntries d s))
+    answered (finishFault img d len s) (λ k. []) (cond (eqb (sessionAt d s .count) 0) [] (sealEntries img d s))
 
 abbrev pub finishRefused : Desk → ℕ → FinishReply
 finishRefused d k = record { answer = Refused k; entries = 0; desk = d }
 
--- the number of entries is the table's, by the number of copies
-abbrev pub finishDone : Desk → ℕ → FinishReply
-finishDone d s =
+-- the number of entries is that of the form, by the number of copies and of the words that differ
+abbrev pub finishDone : List ℕ → Desk → ℕ → FinishReply
+finishDone img d s =
     cond (eqb (sessionAt d s .count) 0)
     (record { answer = Empty; entries = 0; desk = putSession d s idleSession })
     (record {
       answer = SealedAt (d .clock);
-      entries = finishLength (sessionAt d s .count);
+      entries = sealLength (length (changedWords img d s)) (sessionAt d s .count);
       desk = putSession d s (withPhase (sessionAt d s) (Sealed (d .clock)));
     })
 
 unfoldable pub finishReply : List ℕ → Desk → ℕ → ℕ → FinishReply
-finishReply img d len s = answered (finishFault img d len s) (finishRefused d) (finishDone d s)
+finishReply img d len s = answered (finishFault img d len s) (finishRefused d) (finishDone img d s)
 
 -- what it tells: empty, or the persist number
 unfoldable pub finishSaid : List ℕ → Desk → ℕ → ℕ → Told

@@ -53,7 +53,8 @@ fn gives(desk: Desk, answer: FinishAnswer, entries: u64) -> FinishReply
     }
 }
 
-// Writes the session's copies as a log to its slot, and seals it. Without copies the session is idle.
+// Writes the session's copies, or the words of them that differ from home, as a log to its slot, and seals it. Without copies the session
+// is idle.
 pub fn finish(image: &mut [u64], mut desk: Desk, trace: &mut [u64], session: u64) -> FinishReply
     ensures reply { λ r. ⌜ r ≡ finishReply (now (image .entry)) desk (length (now (trace .entry))) session ⌝ }
     ensures image { λ r. ⌜ now (image .exit)
@@ -82,11 +83,22 @@ pub fn finish(image: &mut [u64], mut desk: Desk, trace: &mut [u64], session: u64
         desk.sessions[i] = idle_session();
         return gives(desk, FinishAnswer::Empty, 0);
     }
+    let copies = e.copies;
+    let mut pairs = [0; 26];
+    let k = journal::gather(image, n, copies, count, &mut pairs);
     let base = layout::slot_at(n, 2 * session + e.slot);
     let from = base as usize;
-    let copies = e.copies;
-    journal::write_log(&mut image[from..], base, trace, copies, count, clock);
+    journal::write_log(
+        &mut image[from..],
+        base,
+        trace,
+        &pairs,
+        k,
+        copies,
+        count,
+        clock,
+    );
     desk.sessions[i] = with_phase(e, Phase::Sealed(clock));
-    let entries = journal::finish_length(count);
+    let entries = journal::seal_length(k as u64, count);
     gives(desk, FinishAnswer::Sealed(clock), entries)
 }

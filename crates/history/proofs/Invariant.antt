@@ -79,7 +79,7 @@ NoOne M g d r = (t : ℕ) → t < M → Fresh r (g (d .session t))
 
 pub record Inv (N M : ℕ) (v : State) (d : Desk) (h : History) : Type 0 where
   pub positive : 1 ≤ d .clock
-  pub apart : (p q i x y : ℕ) → p ≢ q → Puts (2 * M) v p i x → Puts (2 * M) v q i y → v .number p ≢ v .number q
+  pub apart : (p q r j l x y : ℕ) → j < 4 → l < 4 → p ≢ q → Puts (2 * M) v p (spot r j) x → Puts (2 * M) v q (spot r l) y → v .number p ≢ v .number q
   pub bounded : (p : ℕ) → p < 2 * M → v .number p ≤ d .clock
   pub newer : (p r j x : ℕ) → j < 4 → Puts (2 * M) v p (spot r j) x → NoOne M unpublished d r → v .number p < d .clock
   pub fine : (t : ℕ) → t < M → Fine N v h (d .clock) t (d .session t)

@@ -3,6 +3,7 @@ pub mod Cuts
 pub mod Batch
 pub mod Places
 pub mod HomeWrites
+pub mod Changed
 pub mod LogForm
 pub mod OneStep
 pub mod Theorems
@@ -13,6 +14,7 @@ pub mod Book
 pub mod Invariant
 pub mod Slots
 pub mod MoveQuiet
+pub mod HeldHome
 pub mod MoveSeal
 pub mod PublishDue
 pub mod MovePublish

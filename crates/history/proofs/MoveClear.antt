@@ -157,10 +157,10 @@ module _ (N M : ℕ) (v v′ : State) (d : Desk) (h : History) (p : ℕ) (inv : 
       still-logged : (o : Option ℕ) → Logged N v h u q cs o → Logged N v′ h u q cs o
       still-logged o g = record { lawful = g .lawful; some-copy = g .some-copy; reserved = g .reserved; occupied = rw same (g .occupied); only = λ i w k. g .only i w (rw (em .log-same (placeOf u q) (place-in M u q lu (g .reserved))) at k); covers = λ r ws m j lj. covered u q cs o g lu r ws m j lj (g .covers r ws m j lj); entry = g .entry }
 
-  pub clear-apart : (q s i x y : ℕ) → q ≢ s → Puts (2 * M) v′ q i x → Puts (2 * M) v′ s i y → v′ .number q ≢ v′ .number s
-  clear-apart q s i x y n a c =
+  pub clear-apart : (q s r j l x y : ℕ) → j < 4 → l < 4 → q ≢ s → Puts (2 * M) v′ q (spot r j) x → Puts (2 * M) v′ s (spot r l) y → v′ .number q ≢ v′ .number s
+  clear-apart q s r j l x y lj ll n a c =
       rw (em .number-same q (a .occupied .0) (not-p q (a .occupied)), em .number-same s (c .occupied .0) (not-p s (c .occupied)))
-      (inv .apart q s i x y n (put-before q i x a) (put-before s i y c))
+      (inv .apart q s r j l x y lj ll n (put-before q (spot r j) x a) (put-before s (spot r l) y c))
 
   pub clearing : Inv N M v′ d h
   clearing = record {

@@ -13,7 +13,7 @@ use Rattle.history.specs.Layout.{Home}
 use Rattle.history.specs.Desk.{Copy, find, spot, writes, Session, active, sealed, copies, Desk, withSession}
 use Rattle.layout.specs.Image.{placeOf}
 use Rattle.history.specs.History.{History, entryOf, over, recordOf, sealing}
-use Rattle.history.proofs.Copies.{mem-one, Mem, Fresh, Apart, mem?, find-fresh, find-mem, in-spot, in-word}
+use Rattle.history.proofs.Copies.{mem-one, Mem, Fresh, Apart, mem?, find-fresh, find-mem, in-spot}
 use Rattle.history.proofs.Book.{Own, own-new, own-more, applied-more, unseen}
 use Rattle.history.proofs.Invariant.{Active, Fine, unpublished, kept, shown, NoOne, Inv, unpublished-copies, Low, low-unpublished, low-kept, low-shown, each, back, at-t, live-back, Aside, aside, excl-after}
 use Rattle.history.proofs.Beside.{Beside, beside-old, beside-back}
@@ -56,11 +56,6 @@ module _ (N M : ℕ) (v v′ : State) (d : Desk) (h : History) (t b q : ℕ) (cs
       go u lu (yes e) = rw e (low-unpublished (d .session t) low r)
       go u lu (no du) = λ w k. alone u lu du r ws w m (unpublished-copies (d .session u) r w k)
 
-  older-at : (i w : ℕ) → In i w (writes cs) → (p x : ℕ) → Puts (2 * M) v p i x → v .number p < d .clock
-  older-at i w written p x a =
-      let k = in-word cs i w written in
-      older (k .r) (k .ws) (k .mem) (k .j) (k .j<) p x (rw (k .index) at a)
-
   beside : Beside (2 * M) (Home N) v v′ (placeOf t q)
   beside = record { empty = fl .was-empty; log-same = fl .log-same; number-same = fl .number-same; home-same = fl .home-same }
 
@@ -70,23 +65,27 @@ module _ (N M : ℕ) (v v′ : State) (d : Desk) (h : History) (t b q : ℕ) (cs
   in-p : (p i x : ℕ) → p ≡ placeOf t q → Puts (2 * M) v′ p i x → In i x (writes cs)
   in-p p i x e a = fl .only-p i x (rw e at (a .written))
 
-  apart′ : (p u i x y : ℕ) → p ≢ u → Puts (2 * M) v′ p i x → Puts (2 * M) v′ u i y → v′ .number p ≢ v′ .number u
-  apart′ p u i x y ne a c = go (ℕ-discrete p (placeOf t q)) (ℕ-discrete u (placeOf t q))
+  -- a log that writes a word of a record of which the new one writes a word is older
+  older-in : (r j m x : ℕ) → j < 4 → m < 4 → In (spot r j) x (writes cs) → (p y : ℕ) → Puts (2 * M) v p (spot r m) y → v .number p < d .clock
+  older-in r j m x lj lm w p y a = let k = in-spot cs r j x lj w in older r (k .0) (k .1) m lm p y a
+
+  apart′ : (p u r j m x y : ℕ) → j < 4 → m < 4 → p ≢ u → Puts (2 * M) v′ p (spot r j) x → Puts (2 * M) v′ u (spot r m) y → v′ .number p ≢ v′ .number u
+  apart′ p u r j m x y lj lm ne a c = go (ℕ-discrete p (placeOf t q)) (ℕ-discrete u (placeOf t q))
     where
       go : Dec (p ≡ placeOf t q) → Dec (u ≡ placeOf t q) → v′ .number p ≢ v′ .number u
       go (yes ep) (yes eu) = absurd (ne (ep ∙ sym eu))
       go (yes ep) (no du) =
-          let lt : v .number u < d .clock = older-at i x (in-p p i x ep a) u y (off u i y du c) in
+          let lt : v .number u < d .clock = older-in r j m x lj lm (in-p p (spot r j) x ep a) u y (off u (spot r m) y du c) in
           let np : v′ .number p ≡ d .clock = rw ep (fl .number-p) in
           let nu : v′ .number u ≡ v .number u = fl .number-same u (c .occupied .0) du in
           omega arith
       go (no dp) (yes eu) =
-          let lt : v .number p < d .clock = older-at i y (in-p u i y eu c) p x (off p i x dp a) in
+          let lt : v .number p < d .clock = older-in r m j y lm lj (in-p u (spot r m) y eu c) p x (off p (spot r j) x dp a) in
           let nu : v′ .number u ≡ d .clock = rw eu (fl .number-p) in
           let np : v′ .number p ≡ v .number p = fl .number-same p (a .occupied .0) dp in
           omega arith
       go (no dp) (no du) =
-          rw (fl .number-same p (a .occupied .0) dp, fl .number-same u (c .occupied .0) du) (inv .apart p u i x y ne (off p i x dp a) (off u i y du c))
+          rw (fl .number-same p (a .occupied .0) dp, fl .number-same u (c .occupied .0) du) (inv .apart p u r j m x y lj lm ne (off p (spot r j) x dp a) (off u (spot r m) y du c))
 
   bounded′ : (p : ℕ) → p < 2 * M → v′ .number p ≤ d .clock
   bounded′ p lp = go (ℕ-discrete p (placeOf t q))

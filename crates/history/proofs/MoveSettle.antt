@@ -55,10 +55,10 @@ module _ (N K : ℕ) (v v′ : State) (ws : List Write) (hm : Homing N K v v′ 
           at (inl c) = absurd (r .unwritten (c .0) (v′ .home i) (c .1))
           at (inr e) = inr (record { unwritten = λ q x a. r .unwritten q x (homing-back q i x a); stands = sym e ∙ r .stands })
 
-  pub homing-apart : ((p q i x y : ℕ) → p ≢ q → Puts K v p i x → Puts K v q i y → v .number p ≢ v .number q)
-      → (p q i x y : ℕ) → p ≢ q → Puts K v′ p i x → Puts K v′ q i y → v′ .number p ≢ v′ .number q
-  homing-apart ap p q i x y d a c =
-      rw (hm .number-same p (a .occupied .0), hm .number-same q (c .occupied .0)) (ap p q i x y d (homing-back p i x a) (homing-back q i y c))
+  pub homing-apart : ((p q r j l x y : ℕ) → j < 4 → l < 4 → p ≢ q → Puts K v p (spot r j) x → Puts K v q (spot r l) y → v .number p ≢ v .number q)
+      → (p q r j l x y : ℕ) → j < 4 → l < 4 → p ≢ q → Puts K v′ p (spot r j) x → Puts K v′ q (spot r l) y → v′ .number p ≢ v′ .number q
+  homing-apart ap p q r j l x y lj ll d a c =
+      rw (hm .number-same p (a .occupied .0), hm .number-same q (c .occupied .0)) (ap p q r j l x y lj ll d (homing-back p (spot r j) x a) (homing-back q (spot r l) y c))
 
 module _ (N M : ℕ) (v v′ : State) (d : Desk) (h : History) (t e q : ℕ) (cs : List Copy) (inv : Inv N M v d h) (l : t < M)
     (is : d .session t ≡ published e q cs) (hm : Homing N (2 * M) v v′ (writes cs)) where

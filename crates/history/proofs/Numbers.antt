@@ -68,12 +68,12 @@ abandons-silent (active b q cs) = mute refl
 abandons-silent (sealed n q cs) = mute refl
 abandons-silent (published e q cs) = mute refl
 
-finishes-silent : (N clock s : ℕ) (x : Session) → Silent (finishes N clock s x)
-finishes-silent N clock s idle = mute refl
-finishes-silent N clock s (active b q []) = mute refl
-finishes-silent N clock s (active b q (c ∷ cs)) = either (leb limit clock) _ _ (mute refl) (mute refl)
-finishes-silent N clock s (sealed n q cs) = mute refl
-finishes-silent N clock s (published e q cs) = mute refl
+finishes-silent : (N : ℕ) (h : History) (clock s : ℕ) (x : Session) → Silent (finishes N h clock s x)
+finishes-silent N h clock s idle = mute refl
+finishes-silent N h clock s (active b q []) = mute refl
+finishes-silent N h clock s (active b q (c ∷ cs)) = either (leb limit clock) _ _ (mute refl) (mute refl)
+finishes-silent N h clock s (sealed n q cs) = mute refl
+finishes-silent N h clock s (published e q cs) = mute refl
 
 settles-silent : (M : ℕ) (d : Desk) (x : Session) → Silent (settles M d x)
 settles-silent M d idle = mute refl
@@ -141,7 +141,7 @@ module _ (N M : ℕ) (f : ℕ → ℕ) (w : ℕ) (d : Desk) (h : History) where
   fits (read s r) = silent (read s r) (dueOf N M f w d h (read s r)) (either (leb M s) _ _ (mute refl) (either (leb N r) _ _ (mute refl) (reads-silent M d h r (d .session s))))
   fits (write s r ws) = silent (write s r ws) (dueOf N M f w d h (write s r ws)) (either (leb M s) _ _ (mute refl) (either (leb N r) _ _ (mute refl) (wrote-silent M f d s r (d .session s))))
   fits (abandon s) = silent (abandon s) (dueOf N M f w d h (abandon s)) (either (leb M s) _ _ (mute refl) (abandons-silent (d .session s)))
-  fits (finish len s) = silent (finish len s) (dueOf N M f w d h (finish len s)) (either (leb 48 len) _ _ (either (leb M s) _ _ (mute refl) (finishes-silent N (d .clock) s (d .session s))) (mute refl))
+  fits (finish len s) = silent (finish len s) (dueOf N M f w d h (finish len s)) (either (leb 48 len) _ _ (either (leb M s) _ _ (mute refl) (finishes-silent N h (d .clock) s (d .session s))) (mute refl))
   -- publish gives the clock behind it
   fits (publish len s) = publish-due N M f w d h (Fits (publish len s)) (λ k _. refused (publish len s) k) len s (λ _ e. (omega arith, omega arith))
   fits (group len set) = group-due N M f w d h (Fits (group len set)) (λ k _. refused (group len set) k) len set (λ _ e. (omega arith, omega arith))

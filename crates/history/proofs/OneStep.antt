@@ -5,6 +5,7 @@ use mathlib.Core.Logic.{_⊎_, inl, inr, _≢_}
 use mathlib.Core.List.{List}
 use native.Mathlib.Omega.{arith}
 use lib.ListN.{getD}
+use Rattle.history.specs.Desk.{spot}
 use Rattle.history.specs.Log.{In, Occupied, Puts}
 use Rattle.journal.specs.Log.{denoted}
 use Rattle.layout.specs.Image.{slotAt}
@@ -42,7 +43,7 @@ module _ (N M : ℕ) (img img′ : List ℕ) (p : ℕ) (good : Good N M img) (oc
   still-good = record {
     whole = ws .long ∙ good .whole;
     sound = λ q o. rw (bodies q) (good .sound q (occupied-back (2 * M) (Home N) (view N img) (view N img′) p step q o));
-    apart = λ q r i v w n a c e. good .apart q r i v w n (back q i v a) (back r i w c) (sym (number q v a) ∙ e ∙ number r w c);
+    apart = λ q u r j l v w lj ll n a c e. good .apart q u r j l v w lj ll n (back q (spot r j) v a) (back u (spot r l) w c) (sym (number q v a) ∙ e ∙ number u w c);
   }
     where
       back : (q i v : ℕ) → Puts (2 * M) (view N img′) q i v → Puts (2 * M) (view N img) q i v

@@ -20,16 +20,18 @@ use Rattle.history.proofs.Batch.{Words, Fit}
 use Rattle.history.proofs.Places.{body-same, slotAt-apart, inside-apart}
 use Rattle.history.proofs.LogForm.{bodyAt, body-lies, body-fit}
 use Rattle.history.proofs.Copies.{Distinct, Below, in-word, mem-one}
+use Rattle.history.proofs.Invariant.{Lawful}
 use Rattle.history.proofs.MoveSettle.{Homing}
 use Rattle.history.proofs.MoveClear.{Emptied}
 
 -- ---- finish
 
-module _ (N M : ℕ) (img : List ℕ) (p n : ℕ) (cs : List Copy) (whole : length img ≡ 4 + 4 * N + 44 * M) (inside : p < 2 * M) (few : length cs ≤ 4) where
-  pub finish-fit : Fit (bodyAt (slotAt N p) cs) (slotAt N p) img
-  finish-fit = body-fit (slotAt N p) cs img few (omega arith)
+module _ (N M : ℕ) (img : List ℕ) (home : ℕ → List ℕ) (p n : ℕ) (cs : List Copy) (whole : length img ≡ 4 + 4 * N + 44 * M) (inside : p < 2 * M) (lawful : Lawful N cs)
+    (some-copy : 1 ≤ length cs) where
+  pub finish-fit : Fit (bodyAt N home (slotAt N p) cs) (slotAt N p) img
+  finish-fit = body-fit N home (slotAt N p) cs lawful some-copy img (omega arith)
 
-  module _ (img′ : List ℕ) (ws : Words (bodyAt (slotAt N p) cs) (slotAt N p) n img img′) where
+  module _ (img′ : List ℕ) (ws : Words (bodyAt N home (slotAt N p) cs) (slotAt N p) n img img′) where
     pub finish-outside : (j : ℕ) → (j < slotAt N p) ⊎ (slotAt N p + 22 ≤ j) → getD img′ j 0 ≡ getD img j 0
     finish-outside j o = go (ws .word j (miss o))
       where
@@ -37,11 +39,11 @@ module _ (N M : ℕ) (img : List ℕ) (p n : ℕ) (cs : List Copy) (whole : leng
         miss (inl l) e = omega arith
         miss (inr l) e = omega arith
 
-        off : (j < slotAt N p) ⊎ (slotAt N p + 22 ≤ j) → ¬ In j (getD img′ j 0) (bodyAt (slotAt N p) cs)
-        off (inl l) h = omega (arith, body-lies (slotAt N p) cs few j _ h .0)
-        off (inr l) h = omega (arith, body-lies (slotAt N p) cs few j _ h .1)
+        off : (j < slotAt N p) ⊎ (slotAt N p + 22 ≤ j) → ¬ In j (getD img′ j 0) (bodyAt N home (slotAt N p) cs)
+        off (inl l) h = omega (arith, body-lies N home (slotAt N p) cs lawful some-copy j _ h .0)
+        off (inr l) h = omega (arith, body-lies N home (slotAt N p) cs lawful some-copy j _ h .1)
 
-        go : (getD img′ j 0 ≡ getD img j 0) ⊎ In j (getD img′ j 0) (bodyAt (slotAt N p) cs) → getD img′ j 0 ≡ getD img j 0
+        go : (getD img′ j 0 ≡ getD img j 0) ⊎ In j (getD img′ j 0) (bodyAt N home (slotAt N p) cs) → getD img′ j 0 ≡ getD img j 0
         go (inl e) = e
         go (inr h) = absurd (off o h)
 

@@ -15,7 +15,7 @@ use Rattle.desk.specs.Group.{member}
 use Rattle.journal.specs.Log.{logEntries}
 use Rattle.history.specs.Call.{Listening, Begin, Read, Finish, Find, Call, begin, read, write, abandon, finish, publish, group, settle, reclaim, listen}
 use Rattle.history.specs.Desk.{Copy, find, recAt, wordsAt, writes, Session, idle, active, sealed, published, Desk, firstOf, holder, awaited}
-use Rattle.history.specs.History.{History, viewAt}
+use Rattle.history.specs.History.{History, recordOf, viewAt}
 use Rattle.history.specs.Ledger.{Ledger, candidate}
 
 pub record Due : Type 0 where
@@ -97,21 +97,22 @@ abandons (active b q cs) = say ok
 abandons (sealed n q cs) = refuse 6
 abandons (published e q cs) = refuse 6
 
--- the log of the copies, in the slot at place p
-abbrev pub finishStores : ℕ → ℕ → ℕ → List Copy → List Entry
-finishStores N p n cs = shift (slotAt N p) (logEntries n (recAt cs) (wordsAt cs) (length cs))
+-- the log of the copies, in the slot at place p. Its form, and what the short one lists, hang on the words that differ from the home
+-- records (document 02, Req 08). Nobody but this session holds the records, and it is not sealed yet, so their home records are the book's.
+abbrev pub finishStores : ℕ → History → ℕ → ℕ → List Copy → List Entry
+finishStores N h p n cs = shift (slotAt N p) (logEntries N (recordOf h) n (recAt cs) (wordsAt cs) (length cs))
 
 -- empty, 10, or sealed with the clock
-abbrev pub sealsCopies : ℕ → ℕ → ℕ → List Copy → Due
-sealsCopies N clock p [] = say empty
-sealsCopies N clock p (c ∷ cs) =
-    cond (leb limit clock) (refuse 10) (record { answer = sealedAt clock; entries = finishStores N p clock (c ∷ cs) })
+abbrev pub sealsCopies : ℕ → History → ℕ → ℕ → List Copy → Due
+sealsCopies N h clock p [] = say empty
+sealsCopies N h clock p (c ∷ cs) =
+    cond (leb limit clock) (refuse 10) (record { answer = sealedAt clock; entries = finishStores N h p clock (c ∷ cs) })
 
-abbrev pub finishes : ℕ → ℕ → ℕ → Session → Due
-finishes N clock s idle = refuse 6
-finishes N clock s (active b q cs) = sealsCopies N clock (placeOf s q) cs
-finishes N clock s (sealed n q cs) = refuse 6
-finishes N clock s (published e q cs) = refuse 6
+abbrev pub finishes : ℕ → History → ℕ → ℕ → Session → Due
+finishes N h clock s idle = refuse 6
+finishes N h clock s (active b q cs) = sealsCopies N h clock (placeOf s q) cs
+finishes N h clock s (sealed n q cs) = refuse 6
+finishes N h clock s (published e q cs) = refuse 6
 
 -- header word 3 is stored as 1,024 above the clock c, and a fence follows (document 02, Req 05)
 abbrev pub raiseStores : ℕ → List Entry
@@ -250,7 +251,7 @@ dueOf N M f w d h (begin s) = ifSession M s (begins (d .clock) (d .session s))
 dueOf N M f w d h (read s r) = ifSession M s (ifRecord N r (reads M d h r (d .session s)))
 dueOf N M f w d h (write s r ws) = ifSession M s (ifRecord N r (wrote M f d s r (d .session s)))
 dueOf N M f w d h (abandon s) = ifSession M s (abandons (d .session s))
-dueOf N M f w d h (finish len s) = ifRoom len (ifSession M s (finishes N (d .clock) s (d .session s)))
+dueOf N M f w d h (finish len s) = ifRoom len (ifSession M s (finishes N h (d .clock) s (d .session s)))
 dueOf N M f w d h (publish len s) = ifRoom len (ifSession M s (publishes (d .clock) w (d .session s)))
 dueOf N M f w d h (group len set) = ifRoom len (groups M w d set)
 dueOf N M f w d h (settle len s) = ifRoom len (ifSession M s (settles M d (d .session s)))

@@ -7,6 +7,7 @@ use lib.ListN.{length, getD, take, drop}
 use Rattle.layout.specs.Image.{slotAt}
 use Rattle.journal.specs.Log.{Slot, denoted}
 use Rattle.journal.proofs.LogFacts.{Sound}
+use Rattle.history.specs.Desk.{spot}
 use Rattle.history.specs.Log.{State, Occupied, Puts}
 
 -- i is the index of a home word
@@ -27,5 +28,5 @@ view N img = record { number = λ p. getD img (slotAt N p) 0; log = λ p. denote
 pub record Good (N M : ℕ) (img : List ℕ) : Type 0 where
   pub whole : length img ≡ 4 + 4 * N + 44 * M
   pub sound : (p : ℕ) → Occupied (2 * M) (view N img) p → Sound N (logOf (body N img p))
-  pub apart : (p q i v w : ℕ) → p ≢ q → Puts (2 * M) (view N img) p i v → Puts (2 * M) (view N img) q i w
+  pub apart : (p q r j l v w : ℕ) → j < 4 → l < 4 → p ≢ q → Puts (2 * M) (view N img) p (spot r j) v → Puts (2 * M) (view N img) q (spot r l) w
       → getD img (slotAt N p) 0 ≢ getD img (slotAt N q) 0

@@ -1,14 +1,15 @@
 // A log written to its slot, each store listed in the trace. For the crates above: there is room in both, which their checks have shown.
 ghost use mathlib.Core.Path.{_≡_};
+ghost use mathlib.Core.List.{[], _∷_};
 ghost use Prim.Native.Nat.{_+_, _*_, _^_, _≤_, _<_};
 ghost use lib.ListN.{length, getD};
 ghost use Rattle.layout.specs.Entries.{stores, shift, made, listed};
 ghost use Rattle.layout.specs.Trace.{Did, Room};
 ghost use Rattle.desk.specs.Desk.{noCopy};
-ghost use Rattle.journal.specs.Log.{placeWrites, bodyWrites, logEntries};
+ghost use Rattle.journal.specs.Log.{placeWrites, bodyWrites, shortWrites, eitherBody, sealedBody};
 use desk::RecordCopy;
 
-// Words of a log slot: the persist number, and the count of copies.
+// Words of a log slot: the persist number, and the count of copies, or 16 + that of pairs.
 const PERSIST_WORD: usize = 0;
 
 const COUNT_WORD: usize = 1;
@@ -33,7 +34,7 @@ fn put_place(
     layout::put_words(slot, base, trace, next, i + 1, words)
 }
 
-// The body of a log: the count, and the copies in their places.
+// The body of a full log: the count, and the copies in their places.
 fn put_copies(
     slot: &mut [u64],
     base: u64,
@@ -59,23 +60,95 @@ fn put_copies(
     next
 }
 
-// A log, in the slot that starts at `base` of the image: its body, a fence, the persist number, a fence.
+// Word i of the slot and the one behind it.
+fn put_pair(
+    slot: &mut [u64],
+    base: u64,
+    trace: &mut [u64],
+    at: usize,
+    i: usize,
+    index: u64,
+    word: u64,
+) -> usize
+    requires { ⌜ Room 2 base i at (now slot) (now trace) ⌝ }
+    ensures { λ r.
+        ⌜ Did (stores ((i, index) ∷ (i + 1, word) ∷ [])) base at (now (slot .entry)) (now (trace .entry)) (now (slot .exit))
+        (now (trace .exit)) r ⌝ }
+{
+    let next = layout::put_store(slot, base, trace, at, i, index);
+    layout::put_store(slot, base, trace, next, i + 1, word)
+}
+
+// The body of a short log: 16 + count, and `count` pairs of home word index and new word.
+fn put_pairs(
+    slot: &mut [u64],
+    base: u64,
+    trace: &mut [u64],
+    pairs: &[u64; 26],
+    count: usize,
+) -> usize
+    requires { ⌜ (count ≤ 9) × Room (1 + 2 * count) base 1 0 (now slot) (now trace) ⌝ }
+    ensures { λ r.
+        ⌜ Did (stores (shortWrites (λ j. getD (now (pairs .entry)) (2 * j) 0) (λ j. getD (now (pairs .entry)) (2 * j + 1) 0) count count)) base 0
+        (now (slot .entry)) (now (trace .entry)) (now (slot .exit)) (now (trace .exit)) r ⌝ }
+    ensures { λ r. ⌜ r ≡ 2 + 4 * count ⌝ }
+{
+    let mut next = layout::put_store(slot, base, trace, 0, COUNT_WORD, 16 + count as u64);
+    let mut k: usize = 0;
+    while k < count {
+        let i = 2 * k;
+        let index = pairs[i];
+        let word = pairs[i + 1];
+        next = put_pair(slot, base, trace, next, 2 + i, index, word);
+        k += 1;
+    }
+    next
+}
+
+// The body of a log: the short one when twice the number of pairs is less than five times the number of copies, else the full one.
+fn put_body(
+    slot: &mut [u64],
+    base: u64,
+    trace: &mut [u64],
+    pairs: &[u64; 26],
+    k: usize,
+    copies: [RecordCopy; 4],
+    count: u64,
+) -> usize
+    requires { ⌜ (k ≤ 13) × (count ≤ 4) × (22 ≤ length (now slot)) × (48 ≤ length (now trace)) × (base + 22 < 2 ^ 64) ⌝ }
+    ensures { λ r.
+        ⌜ Did (stores (eitherBody (λ j. getD (now (pairs .entry)) (2 * j) 0) (λ j. getD (now (pairs .entry)) (2 * j + 1) 0) k (λ j. getD copies j noCopy .rec)
+        (λ j. getD copies j noCopy .words) count)) base 0 (now (slot .entry)) (now (trace .entry)) (now (slot .exit))
+        (now (trace .exit)) r ⌝ }
+    ensures { λ r. ⌜ r ≤ 42 ⌝ }
+{
+    if 2 * (k as u64) < 5 * count {
+        return put_pairs(slot, base, trace, pairs, k);
+    }
+    put_copies(slot, base, trace, copies, count)
+}
+
+// A log, in the slot that starts at `base` of the image: its body, a fence, the persist number, a fence. `pairs` has the k words of the
+// copies that differ from the home records.
 pub fn write_log(
     slot: &mut [u64],
     base: u64,
     trace: &mut [u64],
+    pairs: &[u64; 26],
+    k: usize,
     copies: [RecordCopy; 4],
     count: u64,
     persist: u64,
 )
-    requires { ⌜ (count ≤ 4) × (22 ≤ length (now slot)) × (48 ≤ length (now trace)) × (base + 22 < 2 ^ 64) ⌝ }
+    requires { ⌜ (k ≤ 13) × (count ≤ 4) × (22 ≤ length (now slot)) × (48 ≤ length (now trace)) × (base + 22 < 2 ^ 64) ⌝ }
     ensures image { λ r. ⌜ now (slot .exit)
-        ≡ made (logEntries persist (λ j. getD copies j noCopy .rec) (λ j. getD copies j noCopy .words) count) (now (slot .entry)) ⌝ }
+        ≡ made (sealedBody persist (eitherBody (λ j. getD (now (pairs .entry)) (2 * j) 0) (λ j. getD (now (pairs .entry)) (2 * j + 1) 0) k
+        (λ j. getD copies j noCopy .rec) (λ j. getD copies j noCopy .words) count)) (now (slot .entry)) ⌝ }
     ensures trace { λ r. ⌜ now (trace .exit)
-        ≡ listed (shift base (logEntries persist (λ j. getD copies j noCopy .rec) (λ j. getD copies j noCopy .words) count))
-        (now (trace .entry)) ⌝ }
+        ≡ listed (shift base (sealedBody persist (eitherBody (λ j. getD (now (pairs .entry)) (2 * j) 0) (λ j. getD (now (pairs .entry)) (2 * j + 1) 0) k
+        (λ j. getD copies j noCopy .rec) (λ j. getD copies j noCopy .words) count))) (now (trace .entry)) ⌝ }
 {
-    let a = put_copies(slot, base, trace, copies, count);
+    let a = put_body(slot, base, trace, pairs, k, copies, count);
     let b = layout::put_fence(trace, a);
     let c = layout::put_store(slot, base, trace, b, PERSIST_WORD, persist);
     layout::put_fence(trace, c);

@@ -1,5 +1,6 @@
-// The copies that a log holds, and copies that go home. For the crates above: N, places and records are small and there is room in the
+// What a log denotes, and copies, that go home. For the crates above: N, places and records are small and there is room in the
 // trace, which their checks have shown.
+ghost use mathlib.Core.Bool.{false};
 ghost use mathlib.Core.Path.{_≡_};
 ghost use Prim.Native.Nat.{ℕ, _+_, _*_, _≤_, _<_};
 ghost use lib.ListN.{length, getD};
@@ -8,17 +9,11 @@ ghost use Rattle.layout.specs.Homes.{homesWrites};
 ghost use Rattle.layout.specs.Image.{homeAt, slotWord};
 ghost use Rattle.layout.specs.Trace.{Did};
 ghost use Rattle.desk.specs.Desk.{noCopy};
-ghost use Rattle.journal.specs.Log.{countOf, recOf, wordsOf};
+ghost use Rattle.journal.specs.Log.{recOf, wordsOf, pairsWrites, denoted, unsoundB};
+use crate::logs::is_short;
+use crate::logs::pair_count;
 use desk::RecordCopy;
 use layout::slot_word;
-
-// The count of copies of the log.
-pub fn log_count(image: &[u64], n: u64, place: u64) -> u64
-    requires { ⌜ (n ≤ 256) × (place ≤ 32) ⌝ }
-    ensures { λ r. ⌜ r ≡ countOf (slotWord (now (image .entry)) n place) ⌝ }
-{
-    slot_word(image, n, place, 1)
-}
 
 // The record number of place j of the log.
 fn place_rec(image: &[u64], n: u64, place: u64, j: u64) -> u64
@@ -56,7 +51,7 @@ fn log_copy(image: &[u64], n: u64, place: u64, j: u64) -> RecordCopy
 }
 
 // The copies of a log, in the order of its places.
-pub fn log_copies(image: &[u64], n: u64, place: u64) -> [RecordCopy; 4]
+fn log_copies(image: &[u64], n: u64, place: u64) -> [RecordCopy; 4]
     requires { ⌜ (n ≤ 256) × (place ≤ 32) ⌝ }
     ensures { λ r. ⌜ ((j : ℕ) → j < 4 → getD r j noCopy
         ≡ record { rec = recOf (slotWord (now (image .entry)) n place) j; words = wordsOf (slotWord (now (image .entry)) n place) j }) ⌝ }
@@ -88,4 +83,60 @@ pub fn put_homes(image: &mut [u64], trace: &mut [u64], copies: [RecordCopy; 4], 
         j += 1;
     }
     at
+}
+
+// The words of a short log's pairs, in order.
+fn log_pairs(image: &[u64], n: u64, place: u64) -> [u64; 18]
+    requires { ⌜ (n ≤ 256) × (place ≤ 32) ⌝ }
+    ensures { λ r. ⌜ ((w : ℕ) → w < 18 → getD r w 0 ≡ slotWord (now (image .entry)) n place (2 + w)) ⌝ }
+{
+    let mut pairs = [0; 18];
+    let mut w: u64 = 0;
+    while w < 18 {
+        let i = w as usize;
+        pairs[i] = slot_word(image, n, place, 2 + w);
+        w += 1;
+    }
+    pairs
+}
+
+// Stores the words of the first `count` pairs to the home words, listed from the trace's first word; the answer is the place of the next
+// entry.
+fn put_home_words(image: &mut [u64], trace: &mut [u64], pairs: [u64; 18], count: u64) -> usize
+    requires { ⌜ (count ≤ 9) × (2 * count ≤ length (now trace)) ⌝ }
+    requires { ⌜ ((j : ℕ) → j < count → (getD pairs (2 * j) 0 < 1024) × (4 + getD pairs (2 * j) 0 < length (now image))) ⌝ }
+    ensures { λ r.
+        ⌜ Did (stores (pairsWrites (λ j. getD pairs (2 * j) 0) (λ j. getD pairs (2 * j + 1) 0) count)) 0 0 (now (image .entry))
+        (now (trace .entry)) (now (image .exit)) (now (trace .exit)) r ⌝ }
+    ensures { λ r. ⌜ r ≡ 2 * count ⌝ }
+{
+    let mut j: u64 = 0;
+    let mut at: usize = 0;
+    while j < count {
+        let i = 2 * j as usize;
+        let index = pairs[i];
+        let word = pairs[i + 1];
+        at = layout::put_store(image, 0, trace, at, 4 + index as usize, word);
+        j += 1;
+    }
+    at
+}
+
+// Stores what the log at a place denotes, in either form, listed from the trace's first word; the answer is the place of the next entry.
+pub fn put_denoted(image: &mut [u64], trace: &mut [u64], n: u64, place: u64) -> usize
+    requires { ⌜ (n ≤ 256) × (place ≤ 32) × (4 + 4 * n ≤ length (now image)) × (48 ≤ length (now trace)) ⌝ }
+    requires { ⌜ (unsoundB n (slotWord (now image) n place) ≡ false) × (slotWord (now image) n place 0 ≡ 0 → ⊥) ⌝ }
+    ensures { λ r.
+        ⌜ Did (stores (denoted (slotWord (now (image .entry)) n place))) 0 0 (now (image .entry)) (now (trace .entry))
+        (now (image .exit)) (now (trace .exit)) r ⌝ }
+    ensures { λ r. ⌜ r ≤ 32 ⌝ }
+{
+    if is_short(image, n, place) {
+        let pairs = log_pairs(image, n, place);
+        let k = pair_count(image, n, place);
+        return put_home_words(image, trace, pairs, k);
+    }
+    let copies = log_copies(image, n, place);
+    let count = slot_word(image, n, place, 1);
+    put_homes(image, trace, copies, count)
 }

@@ -48,7 +48,7 @@ module _ (img : List ℕ) (d : Desk) (len s : ℕ) where
   told = go (listenerFault img d (roomFor len) s) refl
     where
       go : (k : ℕ) → listenerFault img d (roomFor len) s ≡ k
-          → finishes (answered k (finishRefused d) (finishDone d s)) ≡ answered k refusal empty
+          → finishes (answered k (finishRefused d) (finishDone img d s)) ≡ answered k refusal empty
       go zero e = rw (listener img d (roomFor len) s e .bare) refl
       go (suc k) e = refl
 
@@ -56,7 +56,7 @@ module _ (img : List ℕ) (d : Desk) (len s : ℕ) where
   listen-finish-tells e = rw e told
 
   -- the store's checks pass, and it gives what it does past them
-  pub finish-done : listenerFault img d (roomFor len) s ≡ 0 → finishReply img d len s ≡ finishDone d s
+  pub finish-done : listenerFault img d (roomFor len) s ≡ 0 → finishReply img d len s ≡ finishDone img d s
   unfolding finishReply finishFault first
   finish-done z = let h = listener img d (roomFor len) s z in rw (h .entry, h .active, h .bare) (answered-zero 0 (finishRefused d) _ refl)
 
@@ -76,14 +76,14 @@ module _ (img : List ℕ) (d : Desk) (len s : ℕ) where
 
     pub finish-left : finishReply img d len s ≡ listenFinishReply img d len s
     unfolding finishReply listenFinishReply
-    finish-left = ap (λ k. answered k (finishRefused d) (finishDone d s)) same-fault
+    finish-left = ap (λ k. answered k (finishRefused d) (finishDone img d s)) same-fault
 
     -- and nothing is stored
     pub nothing-stored : finishEntries img d len s ≡ []
     unfolding finishEntries answered
     nothing-stored = go (finishFault img d len s) (same-fault)
       where
-        go : (k : ℕ) → k ≡ listenerFault img d (roomFor len) s → answered k (λ j. []) (cond (noCopies d s) [] (sealEntries d s)) ≡ []
+        go : (k : ℕ) → k ≡ listenerFault img d (roomFor len) s → answered k (λ j. []) (cond (noCopies d s) [] (sealEntries img d s)) ≡ []
         go zero e = rw (listener img d (roomFor len) s (sym e) .bare) refl
         go (suc k) e = refl
 
@@ -92,7 +92,7 @@ module _ (img : List ℕ) (d : Desk) (len s : ℕ) where
   unfolding listenFinishReply answered
   no-entries = go (listenerFault img d (roomFor len) s) refl
     where
-      go : (k : ℕ) → listenerFault img d (roomFor len) s ≡ k → answered k (finishRefused d) (finishDone d s) .entries ≡ 0
+      go : (k : ℕ) → listenerFault img d (roomFor len) s ≡ k → answered k (finishRefused d) (finishDone img d s) .entries ≡ 0
       go zero e = rw (listener img d (roomFor len) s e .bare) refl
       go (suc k) e = refl
 

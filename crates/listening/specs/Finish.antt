@@ -10,7 +10,7 @@ use Rattle.commit.specs.declared.finishing.FinishReply.{FinishReply}
 use Rattle.listening.specs.Listener.{listenerFault}
 
 unfoldable pub listenFinishReply : List ℕ → Desk → ℕ → ℕ → FinishReply
-listenFinishReply img d len s = answered (listenerFault img d (roomFor len) s) (finishRefused d) (finishDone d s)
+listenFinishReply img d len s = answered (listenerFault img d (roomFor len) s) (finishRefused d) (finishDone img d s)
 
 -- what it tells
 unfoldable pub listenFinishSaid : List ℕ → Desk → ℕ → ℕ → Told

@@ -1,7 +1,7 @@
 -- Every list of entries of recover is tidy.
 use Prim.Native.Nat.{ℕ, _+_, _*_}
 use mathlib.Core.Bool.{Bool, true, false, cond}
-use mathlib.Core.Path.{_≡_, refl, sym, _∙_}
+use mathlib.Core.Path.{_≡_, refl, sym, ap, _∙_}
 use mathlib.Core.List.{List, [], _∷_}
 use native.Mathlib.Omega.{arith}
 use lib.ListN.{length, length-append}
@@ -14,37 +14,44 @@ use Rattle.layout.specs.Tidy.{Tidy}
 use Rattle.layout.proofs.BelowLaws.{lowest-none}
 use Rattle.layout.proofs.ChecksLaws.{first-both, unless-zero}
 use Rattle.layout.proofs.TidyLaws.{tidy-none, tidy-cond, tidy-answered, tidy-list}
-use Rattle.layout.proofs.Groups.{homes-distinct, length-homes, length-stores, once-group, ends-append}
-use Rattle.journal.specs.Lengths.{recoverLength}
-use Rattle.journal.specs.Log.{countOf, recOf, wordsOf, denoted, unsoundB}
+use Rattle.layout.proofs.Groups.{length-stores, once-group, ends-append}
+use Rattle.journal.specs.Lengths.{replayLength}
+use Rattle.journal.specs.Log.{countOf, shortB, pairsOf, denoted, unsoundB}
 use Rattle.layout.proofs.Least.{oldest-is}
-use Rattle.journal.proofs.LengthLaws.{recover-formula}
+use Rattle.journal.proofs.DenotedLaws.{denoted-length, denoted-distinct, denoted-few, replay-counted}
 use Rattle.journal.proofs.LogFacts.{Sound, sound-of}
 use Rattle.recovery.specs.Recover.{slotsOf, logAt, unsoundPlace, recoverFault, firstLog, cleanB, recoverEntries, replayEntries, recoverRefused, recoverReply}
 use Rattle.recovery.specs.declared.recovering.RecoverReply.{RecoverReply}
 use Rattle.recovery.specs.declared.recovering.RecoverAnswer.the-variants.{Refused, Unsound}
 
-pub recover-length : (img : List ℕ) (p : ℕ) → length (replayEntries img p) ≡ 4 * countOf (logAt img p) + 3
-recover-length img p =
+replay-length : (img : List ℕ) (p : ℕ) → length (replayEntries img p) ≡ length (denoted (logAt img p)) + 3
+replay-length img p =
     omega (
       arith,
       length-append (stores (denoted (logAt img p))) (fence ∷ store (slotAt (recordsOf img) p) 0 ∷ fence ∷ []),
       length-stores (denoted (logAt img p)),
-      length-homes (recOf (logAt img p)) (wordsOf (logAt img p)) (countOf (logAt img p)),
     )
 
--- past check 12 the log that is taken is sound
-pub taken-sound : (img : List ℕ) (len : ℕ) → recoverFault img len ≡ 0 → cleanB img ≡ false → Sound (recordsOf img) (logAt img (firstLog img .place))
+pub recover-length : (img : List ℕ) (p : ℕ) → length (replayEntries img p) ≡ cond (shortB (logAt img p)) (pairsOf (logAt img p)) (4 * countOf (logAt img p)) + 3
+recover-length img p = replay-length img p ∙ ap (λ n. n + 3) (denoted-length (logAt img p))
+
+-- the log that is taken has passed check 12
+pub taken-passed : (img : List ℕ) (len : ℕ) → recoverFault img len ≡ 0 → cleanB img ≡ false
+    → (unsoundB (recordsOf img) (logAt img (firstLog img .place)) ≡ false) × (logAt img (firstLog img .place) 0 ≡ 0 → ⊥)
 unfolding recoverFault firstLog unsoundPlace
-taken-sound img len z u =
+taken-passed img len z u =
     let a = first-both (unless (shapedB img) 1) _ z in
     let b = first-both (unless (roomFor len) 3) _ (a .1) in
     let c = first-both (unless (eqb (unsoundPlace img) (slotsOf img)) 12) _ (b .1) in
     let o = oldest-is (persistAt img (recordsOf img)) (slotsOf img) in
-    let q = o .some (eqb-false _ _ u) in
-    sound-of (recordsOf img) (logAt img (firstLog img .place))
-    (lowest-none (λ p. unsoundB (recordsOf img) (logAt img p)) (slotsOf img) (eqb-true _ _ (unless-zero _ 11 (c .0))) (firstLog img .place) (q .0))
-    (λ e. eqb-false _ _ u (sym (q .1) ∙ e))
+    let q = o .some (eqb-false _ _ u) in (
+      lowest-none (λ p. unsoundB (recordsOf img) (logAt img p)) (slotsOf img) (eqb-true _ _ (unless-zero _ 11 (c .0))) (firstLog img .place) (q .0),
+      λ e. eqb-false _ _ u (sym (q .1) ∙ e),
+    )
+
+-- so it is sound
+pub taken-sound : (img : List ℕ) (len : ℕ) → recoverFault img len ≡ 0 → cleanB img ≡ false → Sound (recordsOf img) (logAt img (firstLog img .place))
+taken-sound img len z u = let p = taken-passed img len z u in sound-of (recordsOf img) (logAt img (firstLog img .place)) (p .0) (p .1)
 
 pub recover-tidy : (img : List ℕ) (len : ℕ) → Tidy (recoverFault img len) (recoverReply img len .entries) (recoverEntries img len)
 unfolding recoverReply recoverEntries recoverRefused
@@ -59,11 +66,10 @@ recover-tidy img len =
     place : ℕ
     place = firstLog img .place
 
-    replays : Sound (recordsOf img) (logAt img place) → Tidy 0 (recoverLength (countOf (logAt img place))) (replayEntries img place)
+    replays : Sound (recordsOf img) (logAt img place) → Tidy 0 (replayLength (logAt img place)) (replayEntries img place)
     replays h =
         tidy-list _ (replayEntries img place)
-        (recover-formula (countOf (logAt img place)) (h .at-least) (h .at-most) ∙ sym (recover-length img place))
-        (omega (arith, recover-length img place, h .at-most))
-        (once-group (denoted (logAt img place)) (store (slotAt (recordsOf img) place) 0 ∷ fence ∷ [])
-        (homes-distinct (recOf (logAt img place)) (wordsOf (logAt img place)) (countOf (logAt img place)) (h .differ)) refl)
+        (replay-counted (recordsOf img) (logAt img place) h ∙ sym (replay-length img place))
+        (omega (arith, replay-length img place, denoted-few (recordsOf img) (logAt img place) h))
+        (once-group (denoted (logAt img place)) (store (slotAt (recordsOf img) place) 0 ∷ fence ∷ []) (denoted-distinct (recordsOf img) (logAt img place) h) refl)
         (ends-append (stores (denoted (logAt img place))) fence (store (slotAt (recordsOf img) place) 0 ∷ fence ∷ []) refl)

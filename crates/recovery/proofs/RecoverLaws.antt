@@ -4,28 +4,25 @@ use mathlib.Core.Bool.{true, false}
 use mathlib.Core.Path.{_≡_, sym, ap, _∙_}
 use mathlib.Core.List.{List, [], _∷_, _++_}
 use native.Mathlib.Omega.{arith}
-use lib.ListN.{length, getD}
+use lib.ListN.{length}
 use borrow.Author.Tests.{eq-eqb, ne-eqb, leb-true}
 use Rattle.layout.specs.Checks.{unless, first}
 use Rattle.layout.proofs.ChecksLaws.{first-both, unless-zero, answered-zero, answered-not}
 use Rattle.layout.specs.Entries.{Entry, store, fence, stores}
-use Rattle.layout.specs.Image.{recordsOf, sessionsOf, shapedB, homeAt, slotAt, slotWord, persistAt}
-use Rattle.journal.specs.Lengths.{recoverLength}
-use Rattle.journal.specs.Log.{Slot, countOf, recOf, wordsOf}
-use Rattle.layout.specs.Homes.{homesWrites}
+use Rattle.layout.specs.Image.{recordsOf, sessionsOf, shapedB, slotAt, slotWord, persistAt}
+use Rattle.journal.specs.Lengths.{replayLength}
+use Rattle.journal.specs.Log.{pairsOf, denoted, unsoundB}
+use Rattle.journal.proofs.DenotedLaws.{pairs-few}
 use Rattle.layout.specs.Oldest.{oldestOf}
 use Rattle.layout.specs.declared.oldest.Oldest.{Oldest}
-use Rattle.layout.proofs.Groups.{homes-same}
 use Rattle.layout.proofs.Least.{oldest-is}
 use Rattle.layout.proofs.Says.{by-test}
 use Rattle.layout.proofs.Shape.{Shaped, says-shaped}
-use Rattle.desk.specs.Desk.{noCopy}
-use Rattle.desk.specs.declared.state.RecordCopy.{RecordCopy}
 use Rattle.layout.specs.Checks.{roomFor}
 use Rattle.recovery.specs.Recover.{slotsOf, recoverFault, firstLog, cleanB, recoverEntries, recoverRefused, recoverReply}
 use Rattle.recovery.specs.declared.recovering.RecoverAnswer.the-variants.{Clean, Replayed}
 use Rattle.recovery.specs.declared.recovering.RecoverReply.{RecoverReply}
-use Rattle.recovery.proofs.Lists.{taken-sound, recover-tidy}
+use Rattle.recovery.proofs.Lists.{taken-passed, taken-sound, recover-tidy}
 
 -- what recover answers, and what it lists
 pub record Recovers (img : List ℕ) (len : ℕ) (reply : RecoverReply) (entries : List Entry) : Type 0 where
@@ -76,12 +73,10 @@ pub record Taken (img : List ℕ) (len n : ℕ) (b : Oldest) : Type 0 where
   pub low : b .place ≤ 32
   pub room : 48 ≤ len
   pub inside : slotAt n (b .place) < length img
-  pub few : countOf (slotWord img n (b .place)) ≤ 4
-  pub homes : (j : ℕ) → j < countOf (slotWord img n (b .place)) → (recOf (slotWord img n (b .place)) j < 256) × (homeAt (recOf (slotWord img n (b .place)) j) + 4 ≤ length img)
-
--- the copies are those of a log
-abbrev pub CopiesOf : Slot → List RecordCopy → Type 0
-CopiesOf f copies = (j : ℕ) → j < 4 → getD copies j noCopy ≡ record { rec = recOf f j; words = wordsOf f j }
+  pub homes : 4 + 4 * n ≤ length img
+  pub few : pairsOf (slotWord img n (b .place)) ≤ 9
+  pub passed : unsoundB n (slotWord img n (b .place)) ≡ false
+  pub occupied : slotWord img n (b .place) 0 ≡ 0 → ⊥
 
 module _ {img : List ℕ} {len n : ℕ} {b : Oldest} (f : Found img len n b) where
   -- the image is clean
@@ -102,7 +97,7 @@ module _ {img : List ℕ} {len n : ℕ} {b : Oldest} (f : Found img len n b) whe
     unfolding firstLog
     taken =
         let s = recover-shaped img len (f .passed) in
-        let d = taken-sound img len (f .passed) occupied in
+        let d = taken-passed img len (f .passed) occupied in
         let p = oldest-is (persistAt img (recordsOf img)) (slotsOf img) .some (λ y. u (ap (λ (o : Oldest). o .number) (f .log) ∙ y)) in
         rw (f .log, f .records)
         (record {
@@ -110,22 +105,19 @@ module _ {img : List ℕ} {len n : ℕ} {b : Oldest} (f : Found img len n b) whe
           low = omega (arith, s .range .m-high, p .0);
           room = recover-room img len (f .passed);
           inside = omega (arith, s .size, p .0);
-          few = d .at-most;
-          homes = λ j l. (omega (arith, d .below j l, s .range .n-high), omega (arith, d .below j l, s .size));
+          homes = omega (arith, s .size);
+          few = pairs-few (recordsOf img) _ (taken-sound img len (f .passed) occupied);
+          passed = d .0;
+          occupied = d .1;
         })
 
     -- the log is replayed
-    pub recover-replays : (copies : List RecordCopy) (count slot : ℕ)
-        → CopiesOf (slotWord img n (b .place)) copies → count ≡ countOf (slotWord img n (b .place)) → slot ≡ slotAt n (b .place)
-        → Recovers img len (record { answer = Replayed (b .number); entries = recoverLength count })
-        (stores (homesWrites (λ j. getD copies j noCopy .rec) (λ j. getD copies j noCopy .words) count) ++ (fence ∷ store slot 0 ∷ fence ∷ []))
+    pub recover-replays : (slot : ℕ) → slot ≡ slotAt n (b .place)
+        → Recovers img len (record { answer = Replayed (b .number); entries = replayLength (slotWord img n (b .place)) })
+        (stores (denoted (slotWord img n (b .place))) ++ (fence ∷ store slot 0 ∷ fence ∷ []))
     unfolding recoverReply recoverEntries
-    recover-replays copies count slot h e i =
-        let w =
-        homes-same (λ j. getD copies j noCopy .rec) (recOf (slotWord img n (b .place)))
-        (λ j. getD copies j noCopy .words) (wordsOf (slotWord img n (b .place))) count
-        (λ j l. let k = h j (omega (arith, taken .few)) in (ap (λ (c : RecordCopy). c .rec) k, ap (λ (c : RecordCopy). c .words) k)) in
+    recover-replays slot i =
         record {
-          replies = answered-zero _ (recoverRefused img) _ (f .passed) ∙ rw (occupied, e, f .log, f .records);
-          lists = answered-zero _ (λ _. []) _ (f .passed) ∙ rw (occupied, w, e, i, f .log, f .records);
+          replies = answered-zero _ (recoverRefused img) _ (f .passed) ∙ rw (occupied, f .log, f .records);
+          lists = answered-zero _ (λ _. []) _ (f .passed) ∙ rw (occupied, i, f .log, f .records);
         }

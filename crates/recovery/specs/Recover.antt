@@ -1,6 +1,6 @@
--- Recover, on an image alone (document 01): with all slots empty, "clean". Otherwise it takes the slot with the smallest persist number,
--- lowest place in the image first: its copies to the home records, a fence, 0 into the persist number, a fence; 4c + 3 entries, "replayed"
--- with that number. Checks 1, 3, 12 with the lowest such place, 13.
+-- Recover, on an image alone (document 01): "clean" where no slot is occupied. Else the log with the smallest persist number is replayed,
+-- of equal ones that at the lowest place: what it denotes goes home, a fence, its persist number becomes 0, a fence; 4c + 3 entries of a
+-- full log, k + 3 of a short one (document 02, Req 08). "replayed" tells the number. Checks 1, 3, 12 with the lowest such place, 13.
 use Prim.Native.Nat.{ℕ, _*_}
 use mathlib.Core.Bool.{Bool, not, cond}
 use mathlib.Core.List.{List, [], _∷_, _++_}
@@ -9,8 +9,8 @@ use Rattle.layout.specs.Below.{anyBelow, lowest}
 use Rattle.layout.specs.Checks.{unless, first, answered}
 use Rattle.layout.specs.Entries.{Entry, store, fence, stores}
 use Rattle.layout.specs.Image.{recordsOf, sessionsOf, shapedB, slotAt, slotWord, persistAt}
-use Rattle.journal.specs.Lengths.{recoverLength}
-use Rattle.journal.specs.Log.{Slot, countOf, denoted, unsoundB, tiedB}
+use Rattle.journal.specs.Lengths.{replayLength}
+use Rattle.journal.specs.Log.{Slot, denoted, unsoundB, tiedB}
 use Rattle.layout.specs.Oldest.{oldestOf}
 use Rattle.layout.specs.declared.oldest.Oldest.{Oldest}
 use Rattle.layout.specs.Checks.{roomFor}
@@ -59,12 +59,12 @@ unfoldable pub recoverRefused : List ℕ → ℕ → RecoverReply
 recoverRefused img k =
     cond (eqb k 12) (record { answer = Unsound (unsoundPlace img); entries = 0 }) (record { answer = Refused k; entries = 0 })
 
--- the number of entries is the table's, by the number of copies in the log
+-- the number of entries is that of the log's form
 abbrev pub recoverDone : List ℕ → RecoverReply
 recoverDone img =
     cond (cleanB img)
     (record { answer = Clean; entries = 0 })
-    (record { answer = Replayed (firstLog img .number); entries = recoverLength (countOf (logAt img (firstLog img .place))) })
+    (record { answer = Replayed (firstLog img .number); entries = replayLength (logAt img (firstLog img .place)) })
 
 unfoldable pub recoverReply : List ℕ → ℕ → RecoverReply
 recoverReply img len = answered (recoverFault img len) (recoverRefused img) (recoverDone img)

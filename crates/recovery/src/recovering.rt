@@ -125,15 +125,14 @@ pub fn recover(image: &mut [u64], trace: &mut [u64]) -> RecoverReply
             entries: 0,
         };
     }
-    let count = journal::log_count(image, n, place);
-    let copies = journal::log_copies(image, n, place);
+    let entries = journal::replay_length(image, n, place);
     let slot = layout::slot_at(n, place) as usize;
-    let a = journal::put_homes(image, trace, copies, count);
+    let a = journal::put_denoted(image, trace, n, place);
     let b = layout::put_fence(trace, a);
     let c = layout::put_store(image, 0, trace, b, slot, 0);
     layout::put_fence(trace, c);
     RecoverReply {
         answer: RecoverAnswer::Replayed(persist),
-        entries: journal::recover_length(count),
+        entries: entries,
     }
 }

@@ -7,8 +7,9 @@ use Rattle.layout.specs.Homes.{homesWrites}
 use Rattle.layout.specs.Image.{shapedB, occupiedB}
 use Rattle.layout.specs.Lay.{layFault, layAnswer, laidImage}
 use Rattle.layout.specs.Oldest.{oldestOf}
-use Rattle.journal.specs.Lengths.{finishLength, settleLength, recoverLength}
-use Rattle.journal.specs.Log.{bodyWrites, unsoundB, sharedB}
+use Rattle.journal.specs.Changes.{changesOf, changesBelow}
+use Rattle.journal.specs.Lengths.{finishLength, settleLength, recoverLength, sealLength, replayLength}
+use Rattle.journal.specs.Log.{pairsWrites, denoted, bodyWrites, shortWrites, unsoundB, sharedB}
 use Rattle.desk.specs.Coherent.{freshB, placesOk, sessionOk, copiesB, coherentB}
 use Rattle.desk.specs.Desk.{unmarked}
 use Rattle.desk.specs.Entering.{entryFault}
@@ -56,7 +57,8 @@ coherent =
 
 pub in-digits : InDigits
 unfolding anyBelow lowest first answered homesWrites shapedB occupiedB layFault layAnswer laidImage oldestOf
-    finishLength settleLength recoverLength bodyWrites unsoundB sharedB unmarked entryFault
+    finishLength settleLength recoverLength sealLength replayLength changesOf changesBelow
+    pairsWrites denoted bodyWrites shortWrites unsoundB sharedB unmarked entryFault
     publishFault publishEntries publishReply copyFault writeFault writeReply finishFault finishEntries finishReply
     settleFault oldestReader settleEntries settleReply reclaimFault reclaimEntries reclaimReply
     openFault openEntries openReply unsoundPlace tiedBelow tiesB recoverFault firstLog recoverEntries recoverRefused recoverReply

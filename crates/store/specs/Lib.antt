@@ -1,2 +1,3 @@
 pub mod InDigits
+pub mod ShortInDigits
 pub mod VanLoads

@@ -1,23 +1,23 @@
 use mathlib.Core.Path.{_≡_, refl, sym, _∙_}
 use native.Mathlib.Omega.{arith}
 use lib.ListN.{length}
-use borrow.Author.Needs.{needs}
 use Rattle.desk.specs.Entering.{imageFault}
 use Rattle.layout.specs.Checks.{roomFor}
-use Rattle.commit.proofs.FinishLaws.{SlotFits, slot-fits, sealFault, finished, finish-refused, finish-shut, finish-empty, finish-sealed, sealed-image, sealed-trace}
+use Rattle.commit.proofs.FinishLaws.{SlotFits, slot-fits, sealFault, finished, finish-refused, finish-shut, finish-empty, finish-sealed, found-length, sealed-image, sealed-trace}
+use borrow.Author.Needs.{needs}
 use Rattle.commit.proofs.finishing.finish.Statement.{statement}
 use Rattle.commit.proofs.finishing.finish.Tie as tie
 
 -- the checks before the phase's have passed
-passed : (c : tie.Else1) → let a = c .before .before .before .before .before .before .args in imageFault (a .image .now) (a .t2) (roomFor (length (a .trace .now))) (a .session) ≡ 0
-passed c = sym (rw (c .before .before .before .coherent .ensures) at (c .before .entry-fault .ensures)) ∙ c .if1 .left
+passed : (c : tie.Else1) → let a = (c .before .before .before .before .before .before) .args in imageFault (a .image .now) (a .t2) (roomFor (length (a .trace .now))) (a .session) ≡ 0
+passed c = sym (rw ((c .before .before .before) .coherent .ensures) at ((c .before) .entry-fault .ensures)) ∙ c .if1 .left
 
-fits : (c : tie.Else1) → let a = c .before .before .before .before .before .before .args in SlotFits (a .image .now) (a .t2) (length (a .trace .now)) (a .session)
+fits : (c : tie.Else1) → let a = (c .before .before .before .before .before .before) .args in SlotFits (a .image .now) (a .t2) (length (a .trace .now)) (a .session)
 fits c = slot-fits _ _ _ _ (passed c)
 
 -- the number that checks 6 and 10 give
-shut : (c : tie.After-seal-fault) → let a = c .before .before .before .before .before .before .before .before .before .args in c .seal-fault .result ≡ sealFault (a .t2) (a .session)
-shut c = rw (c .before .is-active .ensures) at (c .seal-fault .ensures)
+shut : (c : tie.After-seal-fault) → let a = (c .before .before .before .before .before .before .before .before .before) .args in c .seal-fault .result ≡ sealFault (a .t2) (a .session)
+shut c = rw ((c .before) .is-active .ensures) at (c .seal-fault .ensures)
 
 coherent-requires : tie.Need-coherent-requires
 coherent-requires c κs = search needs
@@ -58,8 +58,8 @@ returns-2 c = finished (finish-shut _ _ _ _ (passed (c .before .before .before .
 idle-session-requires : tie.Need-idle-session-requires
 idle-session-requires c κs = search needs
 
-mul-t33 : tie.Need-mul-t33
-mul-t33 c = omega (arith, fits (c .before .before .before .before .before .before) .small)
+mul-t35 : tie.Need-mul-t35
+mul-t35 c = omega (arith, fits (c .before .before .before .before .before .before) .small)
 
 element-set-from-desk : tie.Need-element-set-from-desk
 element-set-from-desk c = fits (c .before .before .before .before .before .before) .small
@@ -73,41 +73,44 @@ same-length-3 c = search needs
 returns-3 : tie.Need-returns-3
 returns-3 c = finished (finish-empty _ _ _ _ (passed (c .before .before .before .before .before .before .before)) (sym (shut (c .before .before .before .before)) ∙ (c .before .before .before) .if2 .left) ((c .before .before) .if3 .taken)) _ (rw ((c .before) .idle-session .ensures) at (c .gives3 .ensures)) refl refl
 
+gather-requires : tie.Need-gather-requires
+gather-requires c κs = let f = fits (c .before .before .before .before .before .before .before .before) in ((f .count-high, f .n-high), (f .copied, f .apart))
+
 mul-slot-at : tie.Need-mul-slot-at
-mul-slot-at c = omega (arith, fits (c .before .before .before .before .before) .small)
+mul-slot-at c = omega (arith, fits (c .before .before .before .before .before .before .before .before .before) .small)
 
 add-slot-at : tie.Need-add-slot-at
-add-slot-at c = omega (arith, fits (c .before .before .before .before .before .before) .place-high)
+add-slot-at c = omega (arith, fits (c .before .before .before .before .before .before .before .before .before .before) .place-high)
 
 slot-at-requires : tie.Need-slot-at-requires
-slot-at-requires c κs = omega (arith, fits (c .before .before .before .before .before .before))
+slot-at-requires c κs = omega (arith, fits (c .before .before .before .before .before .before .before .before .before .before))
 
 mul-write-log : tie.Need-mul-write-log
-mul-write-log c = omega (arith, fits (c .before .before .before .before .before .before .before .before), (c .before) .slot-at .ensures)
+mul-write-log c = omega (arith, fits (c .before .before .before .before .before .before .before .before .before .before .before), c .slot-at .ensures)
 
 sub-write-log : tie.Need-sub-write-log
-sub-write-log c = omega (arith, fits (c .before .before .before .before .before .before .before .before), (c .before) .slot-at .ensures)
+sub-write-log c = omega (arith, fits (c .before .before .before .before .before .before .before .before .before .before .before), c .slot-at .ensures)
 
 part-write-log-start : tie.Need-part-write-log-start
-part-write-log-start c = omega (arith, fits (c .before .before .before .before .before .before .before .before), (c .before) .slot-at .ensures)
+part-write-log-start c = omega (arith, fits (c .before .before .before .before .before .before .before .before .before .before .before), c .slot-at .ensures)
 
 part-write-log-end : tie.Need-part-write-log-end
 part-write-log-end c = search needs
 
 write-log-requires : tie.Need-write-log-requires
-write-log-requires c κs = omega (arith, fits (c .before .before .before .before .before .before .before .before .before .before), (c .before .before .before) .slot-at .ensures)
+write-log-requires c κs = omega (arith, fits (c .before .before .before .before .before .before .before .before .before .before .before .before .before .before), (c .before .before .before) .slot-at .ensures, (c .before .before .before .before .before) .gather .ensures .few)
 
 with-phase-requires : tie.Need-with-phase-requires
 with-phase-requires c κs = search needs
 
-mul-t42 : tie.Need-mul-t42
-mul-t42 c = omega (arith, fits (c .before .before .before .before .before .before .before .before .before .before .before .before .before .before .before .before) .small)
+mul-t47 : tie.Need-mul-t47
+mul-t47 c = omega (arith, fits (c .before .before .before .before .before .before .before .before .before .before .before .before .before .before .before .before .before .before .before .before) .small)
 
 element-set-from-desk-2 : tie.Need-element-set-from-desk-2
-element-set-from-desk-2 c = fits (c .before .before .before .before .before .before .before .before .before .before .before .before .before .before .before .before) .small
+element-set-from-desk-2 c = fits (c .before .before .before .before .before .before .before .before .before .before .before .before .before .before .before .before .before .before .before .before) .small
 
-finish-length-requires : tie.Need-finish-length-requires
-finish-length-requires c κs = search needs
+seal-length-requires : tie.Need-seal-length-requires
+seal-length-requires c κs = omega (arith, (c .before .before .before .before .before .before .before .before .before .before .before) .gather .ensures .few, fits (c .before .before .before .before .before .before .before .before .before .before .before .before .before .before .before .before .before .before .before .before) .count-high)
 
 gives-requires-4 : tie.Need-gives-requires-4
 gives-requires-4 c κs = search needs
@@ -120,13 +123,15 @@ same-length-5 c = search needs
 
 returns-4 : tie.Need-returns-4
 returns-4 c =
-    let a = (c .before .before .before .before .before .before .before .before .before .before .before .before .before .before .before .before .before .before .before .before .before .before .before .before) .args in
+    let a = (c .before .before .before .before .before .before .before .before .before .before .before .before .before .before .before .before .before .before .before .before .before .before .before .before .before .before .before .before) .args in
     let from = (c .before .before .before .before .before .before .before .before .before .before .before) .slot-at .ensures in
     let w = (c .before .before .before .before .before .before .before) .write-log .ensures in
-    finished (finish-sealed _ _ _ _ (passed (c .before .before .before .before .before .before .before .before .before .before .before .before .before .before .before .before .before .before)) (sym (shut (c .before .before .before .before .before .before .before .before .before .before .before .before .before .before .before)) ∙ (c .before .before .before .before .before .before .before .before .before .before .before .before .before .before) .if2 .left) ((c .before .before .before .before .before .before .before .before .before .before .before .before .before) .if3 .left)) _
-    (rw ((c .before .before) .with-phase .ensures, (c .before) .finish-length .ensures) at (c .gives4 .ensures))
-    (sealed-image (a .t2) (a .session) _ from (a .image .now) _ (w .0))
-    (sealed-trace (a .t2) (a .session) _ from (a .trace .now) _ (w .1))
+    let g = (c .before .before .before .before .before .before .before .before .before .before .before .before .before) .gather .ensures in
+    let few = fits (c .before .before .before .before .before .before .before .before .before .before .before .before .before .before .before .before .before .before .before .before .before .before) .count-high in
+    finished (finish-sealed _ _ _ _ (passed (c .before .before .before .before .before .before .before .before .before .before .before .before .before .before .before .before .before .before .before .before .before .before)) (sym (shut (c .before .before .before .before .before .before .before .before .before .before .before .before .before .before .before .before .before .before .before)) ∙ (c .before .before .before .before .before .before .before .before .before .before .before .before .before .before .before .before .before .before) .if2 .left) ((c .before .before .before .before .before .before .before .before .before .before .before .before .before .before .before .before .before) .if3 .left)) _
+    (rw ((c .before .before) .with-phase .ensures, (c .before) .seal-length .ensures, found-length (a .image .now) (a .t2) (a .session) few g refl) at (c .gives4 .ensures))
+    (sealed-image (a .image .now) (a .t2) (a .session) few g refl _ from _ (w .0))
+    (sealed-trace (a .image .now) (a .t2) (a .session) few g refl _ from (a .trace .now) _ (w .1))
 
 pub finish-spec : {M : Type 1} → statement M
 finish-spec =
@@ -145,11 +150,12 @@ finish-spec =
     same-length-2
     returns-2
     idle-session-requires
-    mul-t33
+    mul-t35
     element-set-from-desk
     gives-requires-3
     same-length-3
     returns-3
+    gather-requires
     mul-slot-at
     add-slot-at
     slot-at-requires
@@ -159,9 +165,9 @@ finish-spec =
     part-write-log-end
     write-log-requires
     with-phase-requires
-    mul-t42
+    mul-t47
     element-set-from-desk-2
-    finish-length-requires
+    seal-length-requires
     gives-requires-4
     same-length-4
     same-length-5

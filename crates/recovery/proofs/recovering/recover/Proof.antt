@@ -11,15 +11,15 @@ use Rattle.recovery.proofs.recovering.recover.Statement.{statement}
 use Rattle.recovery.proofs.recovering.recover.Tie as tie
 
 -- the checks have passed
-passed : (c : tie.Else1) → recoverFault (c .before .before .before .before .before .args .image .now) (length (c .before .before .before .before .before .args .trace .now)) ≡ 0
-passed c = sym (c .before .recover-fault .ensures) ∙ c .if1 .left
+passed : (c : tie.Else1) → recoverFault ((c .before .before .before .before .before) .args .image .now) (length ((c .before .before .before .before .before) .args .trace .now)) ≡ 0
+passed c = sym ((c .before) .recover-fault .ensures) ∙ c .if1 .left
 
 -- past the checks, what the header and the oldest log are
-oldest : (c : tie.After-oldest-log) → Found (c .before .before .before .before .before .before .before .before .before .before .args .image .now) (length (c .before .before .before .before .before .before .before .before .before .before .args .trace .now)) (c .before .before .before .word .result) (c .oldest-log .result)
-oldest c = found _ _ _ _ _ (passed (c .before .before .before .before .before)) (c .before .before .before .word .ensures) (c .before .word2 .ensures) (c .oldest-log .ensures)
+oldest : (c : tie.After-oldest-log) → Found ((c .before .before .before .before .before .before .before .before .before .before) .args .image .now) (length ((c .before .before .before .before .before .before .before .before .before .before) .args .trace .now)) ((c .before .before .before) .word .result) (c .oldest-log .result)
+oldest c = found _ _ _ _ _ (passed (c .before .before .before .before .before)) ((c .before .before .before) .word .ensures) ((c .before) .word2 .ensures) (c .oldest-log .ensures)
 
 -- the log that is replayed is in range
-log : (c : tie.Else2) → Taken (c .before .before .before .before .before .before .before .before .before .before .before .args .image .now) (length (c .before .before .before .before .before .before .before .before .before .before .before .args .trace .now)) (c .before .before .before .before .word .result) (c .before .oldest-log .result)
+log : (c : tie.Else2) → Taken ((c .before .before .before .before .before .before .before .before .before .before .before) .args .image .now) (length ((c .before .before .before .before .before .before .before .before .before .before .before) .args .trace .now)) ((c .before .before .before .before) .word .result) ((c .before) .oldest-log .result)
 log c = taken (oldest (c .before)) (c .if2 .left)
 
 recover-fault-requires : tie.Need-recover-fault-requires
@@ -57,40 +57,29 @@ returns-2 c =
     let g = recover-clean (oldest (c .before)) (c .if2 .taken) in
     recover-tells _ _ (sym (g .replies), stored-none _ _ _ (g .lists))
 
-log-count-requires : tie.Need-log-count-requires
-log-count-requires c κs = let t = log (c .before) in (t .n-high, t .low)
-
-log-copies-requires : tie.Need-log-copies-requires
-log-copies-requires c κs = let t = log (c .before .before .before) in (t .n-high, t .low)
+replay-length-requires : tie.Need-replay-length-requires
+replay-length-requires c κs = let t = log (c .before) in ((t .n-high, t .low), t .few)
 
 slot-at-requires : tie.Need-slot-at-requires
-slot-at-requires c κs = let t = log (c .before .before .before .before) in (t .n-high, t .low)
+slot-at-requires c κs = let t = log (c .before .before) in (t .n-high, t .low)
 
-put-homes-requires : tie.Need-put-homes-requires
-put-homes-requires c κs =
-    let t = log (c .before .before .before .before .before .before .before) in (
-      (omega (arith, (c .before .before .before .before .before) .log-count .ensures, t .few), omega (arith, (c .before .before .before .before .before) .log-count .ensures, t .few, t .room)),
-      λ j l. rw ((c .before .before .before) .log-copies .ensures j (omega (arith, (c .before .before .before .before .before) .log-count .ensures, t .few))) (t .homes j (omega (arith, (c .before .before .before .before .before) .log-count .ensures))),
-    )
+put-denoted-requires : tie.Need-put-denoted-requires
+put-denoted-requires c κs = let t = log (c .before .before .before .before .before) in ((t .n-high, t .low, t .homes, t .room), (t .passed, t .occupied))
 
 put-fence-requires : tie.Need-put-fence-requires
-put-fence-requires c κs = let t = log (c .before .before .before .before .before .before .before .before .before .before .before .before .before) in omega (arith, (c .before .before .before .before .before .before .before .before .before .before .before) .log-count .ensures, t .few, t .room)
+put-fence-requires c κs = let t = log (c .before .before .before .before .before .before .before .before .before .before .before) in omega (arith, (c .before .before .before .before .before) .put-denoted .ensures .1, t .room)
 
 put-store-requires : tie.Need-put-store-requires
 put-store-requires c κs =
-    let s = c .before .before .before .before .before .before .before .before .before .before .before .before .before in
-    let t = log (s .before .before .before .before .before) in
+    let t = log (c .before .before .before .before .before .before .before .before .before .before .before .before .before .before .before .before) in
     record {
-      listing = omega (arith, s .before .before .before .log-count .ensures, t .few, t .room);
-      storing = omega (arith, s .slot-at .ensures, t .inside);
-      numbers = omega (arith, s .slot-at .ensures, t .n-high, t .low);
+      listing = omega (arith, (c .before .before .before .before .before .before .before .before .before .before) .put-denoted .ensures .1, t .room);
+      storing = omega (arith, (c .before .before .before .before .before .before .before .before .before .before .before .before .before) .slot-at .ensures, t .inside);
+      numbers = omega (arith, (c .before .before .before .before .before .before .before .before .before .before .before .before .before) .slot-at .ensures, t .n-high, t .low);
     }
 
 put-fence-requires-2 : tie.Need-put-fence-requires-2
-put-fence-requires-2 c κs = let t = log (c .before .before .before .before .before .before .before .before .before .before .before .before .before .before .before .before .before .before .before .before .before .before .before .before) in omega (arith, (c .before .before .before .before .before .before .before .before .before .before .before .before .before .before .before .before .before .before .before .before .before .before) .log-count .ensures, t .few, t .room)
-
-recover-length-requires : tie.Need-recover-length-requires
-recover-length-requires c κs = search needs
+put-fence-requires-2 c κs = let t = log (c .before .before .before .before .before .before .before .before .before .before .before .before .before .before .before .before .before .before .before .before .before .before) in omega (arith, (c .before .before .before .before .before .before .before .before .before .before .before .before .before .before .before .before) .put-denoted .ensures .1, t .room)
 
 same-length-3 : tie.Need-same-length-3
 same-length-3 c = search needs
@@ -100,18 +89,13 @@ same-length-4 c = search needs
 
 returns-3 : tie.Need-returns-3
 returns-3 c =
-    let s = c .before .before .before .before .before .before .before .before .before .before .before .before .before .before .before .before .before .before .before .before .before .before .before in
-    let o = s .before .before .before .before .before in
-    let g =
-    recover-replays (oldest (o .before)) (o .if2 .left)
-    (s .before .log-copies .result) (s .before .before .before .log-count .result) (s .slot-at .result)
-    (s .before .log-copies .ensures) (s .before .before .before .log-count .ensures) (s .slot-at .ensures) in
+    let g = recover-replays (oldest (c .before .before .before .before .before .before .before .before .before .before .before .before .before .before .before .before .before .before .before .before .before .before .before .before .before .before)) ((c .before .before .before .before .before .before .before .before .before .before .before .before .before .before .before .before .before .before .before .before .before .before .before .before .before) .if2 .left) ((c .before .before .before .before .before .before .before .before .before .before .before .before .before .before .before .before .before .before .before .before .before .before) .slot-at .result) ((c .before .before .before .before .before .before .before .before .before .before .before .before .before .before .before .before .before .before .before .before .before .before) .slot-at .ensures) in
     let d =
-    and-then (c .before .before .before .before .before .before .before .before .before .before .before .before .before .before .before .before .before .before .before .before .put-homes .ensures .0)
-    (and-then (fenced (c .before .before .before .before .before .before .before .before .before .before .before .before .before .before .put-fence .ensures))
-    (and-then (c .before .before .before .before .before .before .before .before .before .put-store .ensures)
-    (fenced (c .before .before .before .put-fence2 .ensures)))) in
-    recover-tells _ _ (rw (c .recover-length .ensures) (sym (g .replies)), stored-run _ (g .lists) d (recover-fits g (log o .room)))
+    and-then ((c .before .before .before .before .before .before .before .before .before .before .before .before .before .before .before .before .before .before .before) .put-denoted .ensures .0)
+    (and-then (fenced ((c .before .before .before .before .before .before .before .before .before .before .before .before .before) .put-fence .ensures))
+    (and-then ((c .before .before .before .before .before .before .before .before) .put-store .ensures)
+    (fenced ((c .before .before) .put-fence2 .ensures)))) in
+    recover-tells _ _ (rw ((c .before .before .before .before .before .before .before .before .before .before .before .before .before .before .before .before .before .before .before .before .before .before .before) .replay-length .ensures) (sym (g .replies)), stored-run _ (g .lists) d (recover-fits g (log (c .before .before .before .before .before .before .before .before .before .before .before .before .before .before .before .before .before .before .before .before .before .before .before .before .before) .room)))
 
 pub recover-spec : {M : Type 1} → statement M
 recover-spec =
@@ -127,14 +111,12 @@ recover-spec =
     oldest-log-requires
     same-length-2
     returns-2
-    log-count-requires
-    log-copies-requires
+    replay-length-requires
     slot-at-requires
-    put-homes-requires
+    put-denoted-requires
     put-fence-requires
     put-store-requires
     put-fence-requires-2
-    recover-length-requires
     same-length-3
     same-length-4
     returns-3)
