@@ -9,7 +9,7 @@ all other words are 0, as at home.
 
 Entries are found by cutting the finish behind each count: its log is replayed from the last but one on. Instructions
 are by callgrind. Those of a round are the difference of 50 rounds and 250, by the rounds. Those of a finish are what
-this one step adds, 50 rounds, begin and the writes before it: its checks, copies of the desk and line are included.
+this one step adds, with 50 rounds, begin and the writes before it: its checks, copies of the desk and line are included.
 """
 
 import os

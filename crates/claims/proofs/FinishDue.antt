@@ -1,32 +1,32 @@
 -- Finish gives what is due.
 use Prim.Native.Nat.{ℕ, zero, suc, _+_, _*_, _<_}
-use mathlib.Core.Bool.{true, false, false≢true}
 use mathlib.Core.Path.{_≡_, refl, sym, ap, subst, _∙_}
 use mathlib.Core.Logic.{_⊎_, inl, inr}
 use mathlib.Core.List.{List, [], _∷_}
 use native.Mathlib.Omega.{arith}
 use lib.ListN.{length, getD}
 use lib.Seq.{getD-set-same, getD-set-other}
-use borrow.Author.Tests.{lt-ltb, le-ltb, ne-eqb}
-use Rattle.layout.specs.Checks.{answered, roomFor}
+use borrow.Author.Tests.{lt-ltb, le-ltb, eq-eqb, ne-eqb}
+use Rattle.layout.specs.Checks.{roomFor}
 use Rattle.layout.specs.Entries.{Entry, store, fence, Write, shift}
 use Rattle.layout.specs.Image.{homeWords, placeOf, slotAt}
-use Rattle.layout.specs.Told.{sealedAt, isRefusal}
+use Rattle.layout.specs.Told.{sealedAt}
 use Rattle.layout.proofs.ChecksLaws.{first-both, answered-zero}
-use Rattle.layout.proofs.Groups.{Differ}
+use Rattle.layout.specs.Homes.{Differ}
 use Rattle.journal.specs.Log.{bodyWrites, shortWrites, indexIn, wordIn, sealedBody}
 use Rattle.journal.proofs.ChangesLaws.{below-ascending}
 use Rattle.journal.proofs.LogGroups.{length-body, length-short, either-short, either-full}
 use Rattle.journal.proofs.Positions.{write, pair-index, pair-word, short-count, place-record, place-words, body-count}
-use Rattle.desk.specs.Desk.{noSession, copiedRec, copiedWords, sessionAt, withPhase, putSession}
+use Rattle.desk.specs.Desk.{noSession, copiedRec, copiedWords, sessionAt, idleSession, withPhase, putSession}
 use Rattle.desk.specs.declared.state.Phase.the-variants.{Sealed}
 use Rattle.desk.specs.Entering.{imageFault}
 use Rattle.desk.specs.declared.state.Session.{Session}
 use Rattle.desk.specs.declared.state.Desk.{Desk}
 use Rattle.desk.proofs.Copied.{copies-below, copies-differ}
 use Rattle.desk.proofs.Entered.{entered}
-use Rattle.commit.specs.Finish.{finishFault, changedWords, sealEntries, finishEntries, finishDone, finishRefused, finishReply}
+use Rattle.commit.specs.Finish.{finishFault, changedWords, sealEntries, finishEntries, finishReply}
 use Rattle.commit.specs.Told.{finishTold}
+use Rattle.commit.specs.declared.finishing.FinishAnswer.the-variants.{Empty}
 use Rattle.commit.specs.declared.finishing.FinishReply.{FinishReply}
 use Rattle.history.specs.Call.{finish}
 use Rattle.history.specs.Log.{In}
@@ -36,6 +36,7 @@ use Rattle.claims.specs.FinishDue.{copyWord, homeIndex, homeWord, Differ
 use Rattle.claims.specs.Rules.{storeRules}
 use Rattle.claims.proofs.ByEntry.{closed, closed-moved, entry-stored, entry-moved}
 use Rattle.claims.proofs.Lists.{lists}
+use Rattle.claims.proofs.Rows.{finish-row}
 
 -- ---- what the log lists
 
@@ -145,11 +146,6 @@ module _ (img : List ℕ) (d : Desk) (s : ℕ) (below : (j : ℕ) → j < sessio
 
 -- ---- past the checks
 
-passed : (d : Desk) (x : FinishReply) (k : ℕ) → isRefusal (finishTold (answered k (finishRefused d) x .answer)) ≡ false → k ≡ 0
-unfolding answered
-passed d x zero e = refl
-passed d x (suc k) e = absurd (false≢true (sym e))
-
 -- a session with copies is one of the desk's
 inside : (xs : List Session) (s : ℕ) → (getD xs s noSession .count ≡ 0 → ⊥) → s < length xs
 inside [] s h = absurd (h refl)
@@ -213,6 +209,20 @@ module _ (img : List ℕ) (d : Desk) (len s : ℕ) (z : finishFault img d len s 
         desk = left;
       }
 
+module _ (img : List ℕ) (d : Desk) (len s : ℕ) (z : finishFault img d len s ≡ 0) (none : sessionAt d s .count ≡ 0) where
+  empty-reply : finishReply img d len s ≡ record { answer = Empty; entries = 0; desk = putSession d s idleSession }
+  unfolding finishReply
+  empty-reply = answered-zero (finishFault img d len s) _ _ z ∙ rw (eq-eqb (sessionAt d s .count) 0 none)
+
+  no-entries : storeRules .call img d (finish len s) .entries ≡ []
+  unfolding finishEntries
+  no-entries = answered-zero (finishFault img d len s) _ _ z ∙ rw (eq-eqb (sessionAt d s .count) 0 none)
+
 pub finish-due : FinishDue storeRules
-unfolding finishReply
-finish-due img d len s e = seals img d len s (passed d (finishDone img d s) (finishFault img d len s) e)
+finish-due =
+    record {
+      seals = λ img d len s z. seals img d len s (finish-row img d len s ∙ z);
+      empties = λ img d len s z e.
+          let r = empty-reply img d len s (finish-row img d len s ∙ z) e in
+          (ap (λ (x : FinishReply). finishTold (x .answer)) r, no-entries img d len s (finish-row img d len s ∙ z) e, ap (λ (x : FinishReply). x .entries) r);
+    }

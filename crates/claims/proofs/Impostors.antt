@@ -52,12 +52,12 @@ use Rattle.claims.specs.Recovery.{replays, afterCalls, afterStop, afterA
 use Rattle.claims.specs.Demands.{Demand2, OpeningStores, PublishStores, StoresDue, Demand3, Cut, during, cutImage, cutHistory, FindRight, Recovered}
 use Rattle.claims.specs.Edges.{deskOf, oneMark, oneCopy}
 use Rattle.claims.specs.Lives.{Life, AllCome, afterLife, afterLives}
-use Rattle.claims.specs.Recovering.{RecoverDue}
+use Rattle.claims.specs.Recovering.{PairsHome, RecoverDue}
 use Rattle.claims.specs.Refusals.{holds, firstRefusal}
 use Rattle.claims.specs.Fresh.{numberGiven, Gives, Fresh}
 use Rattle.claims.specs.Together.{GroupStores}
 use Rattle.claims.specs.Impostors.{oneByOne, inTurn, endsInTurn, tickingForEach, ticksForEach, firstAlone, endsFirstAlone, showingLater, showsLater, publishesSome}
-use Rattle.claims.specs.Impostors.{Impostors, Change, kindOf, past, telling, relisting, zeroing, miscounting, clearingEarly, waitingForAll, showingSealed, busyOther, heldSealed, sealedCopy, turnsAway, waitsAtOnce, holdsAtOnce, readsZeros, zeroed, doesNothing, storesNothing, saysClean, clearing, clearsOthers, withoutLast, unfencedAt, replaysOne, miscounts, unfenced, oneGroup, sessionOrder, clearsEarly, waitsForAll, showsSealed, namingBy, names, lowestReader, lastReader, newestReader, asRead, asHome, Search, firstEnd, lastEnd, earlyEnd, findingBy, findsBy, openingBy, clockAlone, withoutPair, losesPair, exchanged, writesInOrder, withoutPairs, comparesWithOwn, inFull, fullWhereSame, clearsShort, replaysBackwards, fullAlone, differing, settlingChanged, settlesChanged}
+use Rattle.claims.specs.Impostors.{Impostors, Change, kindOf, past, telling, relisting, zeroing, miscounting, clearingEarly, waitingForAll, showingSealed, busyOther, heldSealed, sealedCopy, turnsAway, waitsAtOnce, holdsAtOnce, readsZeros, zeroed, doesNothing, storesNothing, saysClean, clearing, clearsOthers, withoutLast, unfencedAt, replaysOne, miscounts, unfenced, oneGroup, sessionOrder, clearsEarly, waitsForAll, showsSealed, namingBy, names, lowestReader, lastReader, newestReader, asRead, asHome, Search, firstEnd, lastEnd, earlyEnd, findingBy, findsBy, openingBy, clockAlone, withoutPair, losesPair, exchanged, writesInOrder, withoutPairs, comparesWithOwn, inFull, fullWhereSame, clearsShort, replaysBackwards, recoversUnfenced, fullAlone, differing, settlingChanged, settlesChanged}
 use Rattle.claims.proofs.Abstraction.{txn-of, copiesOf, pack, marked}
 use Rattle.claims.proofs.Entering.{holder-named}
 use Rattle.claims.proofs.Along.{Along, same, step-along, run-along, opened-along, call-fenced}
@@ -859,13 +859,22 @@ store-index : Entry → ℕ
 store-index (store i w) = i
 store-index fence = 0
 
+-- what is due of its replay
+pairs-due : (R : Rules) → RecoverDue R → PairsHome two-pairs 0 2 (R .recover two-pairs 48 .entries)
+unfolding expected firstRefusal holds
+pairs-due R h =
+    h .replays two-pairs 48 0 refl
+    (record { inside = omega arith; occupied = λ e. omega (arith, e); smallest = λ q l n. omega (arith, n); lowest = λ q l n. absurd (omega arith) }) .short 2 refl
+
 -- word 0 is due first
 replays-backwards : RecoverDue replaysBackwards → ⊥
-unfolding expected firstRefusal holds store-index
-replays-backwards h =
-    eqb-false _ _ refl
-    (ap store-index (h .replays two-pairs 48 0 refl
-    (record { inside = omega arith; occupied = λ e. omega (arith, e); smallest = λ q l n. omega (arith, n); lowest = λ q l n. absurd (omega arith) }) .short 2 refl .words 0 (omega arith)))
+unfolding expected store-index
+replays-backwards h = eqb-false _ _ refl (ap store-index (pairs-due replaysBackwards h .words 0 (omega arith)))
+
+-- five entries are due
+recovers-unfenced : RecoverDue recoversUnfenced → ⊥
+unfolding expected
+recovers-unfenced h = eqb-false _ _ refl (pairs-due recoversUnfenced h .closes .size)
 
 -- ---- the rule of a call's list
 
@@ -1121,4 +1130,5 @@ impostors =
       full-where-same = full-where-same;
       settles-changed = settles-changed;
       replays-backwards = replays-backwards;
+      recovers-unfenced = recovers-unfenced;
     }

@@ -8,8 +8,8 @@ use native.Mathlib.Decide.{decLt}
 use native.Mathlib.Omega.{arith}
 use Rattle.layout.specs.Image.{word}
 use Rattle.layout.proofs.Says.{says-not}
-use Rattle.journal.specs.Log.{Slot, countOf, pairsOf, indexOf, placesOf, usedOf, touchedOf}
-use Rattle.journal.proofs.LogFacts.{Sound, BadFull, BadShort, short-test, full-test, says-unsound, sound-of}
+use Rattle.journal.specs.Log.{Slot, countOf, pairsOf, indexOf, placesOf, usedOf, touchedOf, Sound}
+use Rattle.journal.proofs.LogFacts.{BadFull, BadShort, short-test, full-test, says-unsound, sound-of}
 use Rattle.claims.specs.ByEntry.{inSlot}
 use Rattle.claims.specs.LogFaults.{WrongIndex, Wrong, Touches, LogFaults}
 use Rattle.claims.specs.Refusals.{unsoundAt}

@@ -21,7 +21,7 @@ use Rattle.layout.proofs.Says.{test}
 use Rattle.layout.proofs.Shape.{Shaped, says-shaped}
 use Rattle.layout.specs.Told.{ok}
 use Rattle.desk.specs.Desk.{noSession, idleSession}
-use Rattle.journal.proofs.LogFacts.{Sound}
+use Rattle.journal.specs.Log.{Sound}
 use Rattle.recovery.specs.Open.{openFault, openEntries, openReply, openRefused, opened as openedReply, freshDesk}
 use Rattle.recovery.proofs.OpenLaws.{Openable, openable, open-opens}
 use Rattle.recovery.specs.Told.{openTold}

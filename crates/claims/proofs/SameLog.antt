@@ -7,11 +7,11 @@ use mathlib.Core.List.{List}
 use native.Mathlib.Omega.{arith}
 use lib.ListN.{getD}
 use Rattle.layout.specs.Image.{slotWord}
-use Rattle.journal.specs.Log.{Slot, countOf, recOf, wordsOf, pairsOf, indexOf, wordOf, pairsWrites, denoted, unsoundB, placesOf, usedOf, touchedOf, tiedB, sharedB}
+use Rattle.journal.specs.Log.{Slot, countOf, recOf, wordsOf, pairsOf, indexOf, wordOf, pairsWrites, denoted, unsoundB, placesOf, usedOf, touchedOf, tiedB, sharedB, Sound}
 use Rattle.layout.specs.Homes.{homesWrites}
 use Rattle.layout.proofs.Says.{Says, says-lt, says-eq, says-ne, says-and, says-any, says-not}
 use Rattle.journal.proofs.DenotedLaws.{pairs-same}
-use Rattle.journal.proofs.LogFacts.{Sound, denotes-short, denotes-full, says-unsound, sound-no-fault}
+use Rattle.journal.proofs.LogFacts.{denotes-short, denotes-full, says-unsound, sound-no-fault}
 use Rattle.history.specs.Layout.{body, logOf}
 use Rattle.history.proofs.HomeWrites.{homes-same}
 use Rattle.history.proofs.LogForm.{own-word}

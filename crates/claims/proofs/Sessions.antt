@@ -12,7 +12,7 @@ use lib.Seq.{getD-set-same, getD-set-other}
 use borrow.Author.Tests.{ltb-true, ltb-false, eqb-true, eqb-false}
 use Rattle.layout.specs.Below.{lowest}
 use Rattle.layout.proofs.Says.{says-lt, says-eq, says-and, by-test}
-use Rattle.layout.proofs.Groups.{Differ}
+use Rattle.layout.specs.Homes.{Differ}
 use Rattle.desk.specs.Desk.{noCopy, copyAt, copiedRec, isActive, zeroCopy, idleSession, withPhase}
 use Rattle.desk.specs.Coherent.{zeroCopyB, placeHas}
 use Rattle.desk.specs.declared.state.Phase.{Phase}

@@ -1,19 +1,19 @@
--- What is due of a finish with copies, on any image and desk that it does not refuse, entry by entry (document 01, "Finish"; document 02,
--- Req 08). Of c copies some words differ from the words of their home records. Where twice the number of these is less than 5c, the log
--- lists exactly them, in ascending home word index; else it has the copies, in the order of their first writes.
+-- What is due of finish, on any image and desk that it does not refuse, entry by entry (document 01, "Finish"; document 02, Req 08). Of c
+-- copies some words differ from the words of their home records. Where twice the number of these is less than 5c, the log lists exactly
+-- them, in ascending home word index; else it has the copies, in the order of their first writes. Without copies there is no log.
 use Prim.Native.Nat.{ℕ, suc, _+_, _*_, _≤_, _<_}
-use mathlib.Core.Bool.{false}
 use mathlib.Core.Path.{_≡_}
-use mathlib.Core.List.{List}
+use mathlib.Core.List.{List, []}
 use lib.ListN.{length, getD}
 use Rattle.layout.specs.Entries.{Entry, store}
 use Rattle.layout.specs.Image.{word}
-use Rattle.layout.specs.Told.{sealedAt, isRefusal}
+use Rattle.layout.specs.Told.{empty, sealedAt}
 use Rattle.desk.specs.Desk.{copiedRec, copiedWords, sessionAt}
 use Rattle.desk.specs.declared.state.Phase.the-variants.{Sealed}
 use Rattle.desk.specs.declared.state.Desk.{Desk}
 use Rattle.history.specs.Call.{finish}
 use Rattle.claims.specs.ByEntry.{entry, slotIndex, Closes}
+use Rattle.claims.specs.Refusals.{firstRefusal, row, given}
 use Rattle.claims.specs.Rules.{Reply, Rules}
 
 -- word m of copy j of session s
@@ -86,6 +86,12 @@ pub record Seals (img : List ℕ) (d : Desk) (s : ℕ) (y : Reply) : Type 0 wher
   pub count : y .count ≡ length (y .entries)
   pub desk : SealedDesk d s (y .desk)
 
-abbrev pub FinishDue : Rules → Type 0
-FinishDue R = (img : List ℕ) (d : Desk) (len s : ℕ) → isRefusal (R .call img d (finish len s) .told) ≡ false
-    → (sessionAt d s .count ≡ 0 → ⊥) → Seals img d s (R .call img d (finish len s))
+-- no cause of its row holds
+abbrev pub Accepted : List ℕ → Desk → ℕ → ℕ → Type 0
+Accepted img d len s = firstRefusal (row (finish len s)) (given img d (finish len s)) ≡ 0
+
+pub record FinishDue (R : Rules) : Type 0 where
+  pub seals : (img : List ℕ) (d : Desk) (len s : ℕ) → Accepted img d len s → (sessionAt d s .count ≡ 0 → ⊥) → Seals img d s (R .call img d (finish len s))
+  -- without copies
+  pub empties : (img : List ℕ) (d : Desk) (len s : ℕ) → Accepted img d len s → sessionAt d s .count ≡ 0
+      → (R .call img d (finish len s) .told ≡ empty) × (R .call img d (finish len s) .entries ≡ []) × (R .call img d (finish len s) .count ≡ 0)

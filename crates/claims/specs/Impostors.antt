@@ -442,7 +442,7 @@ withoutPair (fence ∷ es) = fence ∷ es
 abbrev pub losesPair : Rules
 losesPair = past 4 (relisting withoutPair)
 
--- a finish that lists the words in the order of first writes, not in ascending index: two pairs change places
+-- a finish whose two pairs do not ascend, as where they stand in the order of first writes and the higher record was written first
 abbrev pub placed : (ℕ → ℕ) → List Entry → List Entry
 placed g [] = []
 placed g (store i w ∷ es) = store (g i) w ∷ placed g es
@@ -499,6 +499,10 @@ backwards (x ∷ ws) = backwards ws ++ (x ∷ [])
 abbrev pub replaysBackwards : Rules
 replaysBackwards = replayingShort backwards
 
+-- a recover that leaves out its last fence
+abbrev pub recoversUnfenced : Rules
+recoversUnfenced = replaying (λ img. firstLog img .place) (λ img. withoutLast (replayEntries img (firstLog img .place)))
+
 -- a recover that takes every log for a full one, and refuses a count above 4 with 12
 abbrev pub overFour : List ℕ → ℕ → Bool
 overFour img p = occupiedAt img (recordsOf img) p && ltb 4 (countOf (logAt img p))
@@ -510,7 +514,7 @@ fullAlone =
       call = storeRules .call;
       recover = λ img len.
           let p = lowest (slotsOf img) (overFour img) in
-          cond (ltb p (slotsOf img)) (recovery (refused 12 p) []) (storeRules .recover img len);
+          cond (ltb p (slotsOf img) && not (isRefusal (storeRules .recover img len .told))) (recovery (refused 12 p) []) (storeRules .recover img len);
     }
 
 -- a settle that stores only the words that differ from home
@@ -589,7 +593,8 @@ pub record Impostors : Type 0 where
   pub clears-short : Demand3 clearsShort → ⊥
   pub full-alone : Demand3 fullAlone → ⊥
   -- what no power failure shows: the full form where no word differs; a settle that leaves out equal words; a short log replayed from its
-  -- last pair to its first
+  -- last pair to its first; a recover without its last fence
   pub full-where-same : StoresDue fullWhereSame → ⊥
   pub settles-changed : StoresDue settlesChanged → ⊥
   pub replays-backwards : RecoverDue replaysBackwards → ⊥
+  pub recovers-unfenced : RecoverDue recoversUnfenced → ⊥

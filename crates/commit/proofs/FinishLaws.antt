@@ -21,7 +21,7 @@ use Rattle.desk.specs.Coherent.{limit}
 use Rattle.desk.specs.declared.state.Phase.the-variants.{Sealed}
 use Rattle.desk.specs.declared.state.Desk.{Desk}
 use Rattle.desk.proofs.Copied.{copies-four, copies-below, copies-differ}
-use Rattle.layout.proofs.Groups.{Differ}
+use Rattle.layout.specs.Homes.{Differ}
 use Rattle.desk.specs.Entering.{imageFault}
 use Rattle.layout.specs.Checks.{roomFor}
 use Rattle.commit.specs.Finish.{finishFault, sealEntries, finishEntries, finishRefused, finishReply, finishSaid, changedWords}

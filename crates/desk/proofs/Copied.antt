@@ -3,7 +3,7 @@ use Prim.Native.Nat.{ℕ, _<_, _≤_}
 use mathlib.Core.Bool.{true, _||_}
 use mathlib.Core.Path.{_≡_}
 use native.Mathlib.Omega.{arith}
-use Rattle.layout.proofs.Groups.{Differ}
+use Rattle.layout.specs.Homes.{Differ}
 use Rattle.desk.specs.declared.state.Desk.{Desk}
 use Rattle.desk.specs.Desk.{copiedRec, sessionAt, isSealed, isPublished}
 use Rattle.desk.proofs.Facts.{count-four, count-one, Coherent}

@@ -10,7 +10,8 @@ use lib.ListN.{length, getD}
 use lib.Dec.{eqb}
 use borrow.Author.Tests.{eqb-true, eqb-false}
 use Rattle.layout.specs.Entries.{Write}
-use Rattle.layout.proofs.Groups.{Differ, Ascending}
+use Rattle.layout.specs.Homes.{Differ}
+use Rattle.layout.proofs.Groups.{Ascending}
 use Rattle.layout.proofs.Says.{by-test}
 use Rattle.journal.specs.Changes.{changeAt, changesIn, changesOf, changesBelow}
 use Rattle.journal.specs.Log.{indexIn, wordIn}

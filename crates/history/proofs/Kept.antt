@@ -12,7 +12,7 @@ use Rattle.layout.specs.Crash.{crashed as cut}
 use Rattle.layout.specs.Entries.{Entry, made}
 use Rattle.layout.specs.Image.{slotAt}
 use Rattle.layout.specs.Told.{Told, End, is, refusal, empty}
-use Rattle.journal.proofs.LogFacts.{Sound}
+use Rattle.journal.specs.Log.{Sound}
 use Rattle.history.specs.Log.{Occupied, Final}
 use Rattle.history.specs.Layout.{body, logOf, view, Good}
 use Rattle.history.specs.Call.{Listening, Begin, Read, Finish, Find, Call, begin, read, write, abandon, finish, publish, group, settle, reclaim, listen}

@@ -15,8 +15,7 @@ use Rattle.layout.specs.Told.{sealedAt}
 use Rattle.history.specs.Log.{In, Occupied}
 use Rattle.history.specs.Layout.{Home, body, logOf, view}
 use Rattle.desk.specs.Coherent.{limit}
-use Rattle.journal.specs.Log.{denoted}
-use Rattle.journal.proofs.LogFacts.{Sound}
+use Rattle.journal.specs.Log.{denoted, Sound}
 use Rattle.history.specs.Batch.{batch}
 use Rattle.history.specs.Call.{finish}
 use Rattle.history.specs.Cut.{feedCut}

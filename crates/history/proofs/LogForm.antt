@@ -15,13 +15,13 @@ use Rattle.layout.specs.Image.{slotAt}
 use Rattle.layout.proofs.Says.{by-test}
 use Rattle.layout.proofs.TraceLaws.{shift-append}
 use Rattle.journal.specs.Changes.{changesBelow}
-use Rattle.journal.specs.Log.{Slot, countOf, recOf, wordsOf, pairsOf, indexOf, wordOf, pairsWrites, denoted, usedOf, touchedOf}
+use Rattle.journal.specs.Log.{Slot, countOf, recOf, wordsOf, pairsOf, indexOf, wordOf, pairsWrites, denoted, usedOf, touchedOf, Sound, SoundFull, SoundShort}
 use Rattle.journal.specs.Log.{placeWrites, bodyWrites, pairWrites, shortWrites, shorterB, indexIn, wordIn, logBody, sealedBody, logEntries}
 use Rattle.journal.proofs.ChangesLaws.{below-ascending}
 use Rattle.journal.proofs.DenotedLaws.{pairs-same}
 use Rattle.journal.proofs.LogGroups.{length-body, length-short}
 use Rattle.journal.proofs.Positions.{write, place-word, pair-index, pair-word, short-count, place-record, place-words, body-count}
-use Rattle.journal.proofs.LogFacts.{Sound, SoundFull, SoundShort, short-test, full-test, denotes-short, denotes-full}
+use Rattle.journal.proofs.LogFacts.{short-test, full-test, denotes-short, denotes-full}
 use Rattle.history.specs.Batch.{batch}
 use Rattle.history.specs.Desk.{Copy, spot, recAt, wordsAt, writes}
 use Rattle.history.specs.Layout.{Home, body, logOf}

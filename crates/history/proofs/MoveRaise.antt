@@ -6,8 +6,7 @@ use mathlib.Core.List.{List, []}
 use native.Mathlib.Omega.{arith}
 use lib.ListN.{length, getD}
 use Rattle.layout.specs.Image.{placeOf, slotAt}
-use Rattle.journal.specs.Log.{denoted}
-use Rattle.journal.proofs.LogFacts.{Sound}
+use Rattle.journal.specs.Log.{denoted, Sound}
 use Rattle.history.specs.Log.{In, State, Occupied}
 use Rattle.history.specs.Layout.{Home, body, logOf, view}
 use Rattle.history.specs.Desk.{spot, Desk}

@@ -5,8 +5,7 @@ use mathlib.Core.Logic.{_≢_}
 use mathlib.Core.List.{List, _∷_}
 use lib.ListN.{length, getD, take, drop}
 use Rattle.layout.specs.Image.{slotAt}
-use Rattle.journal.specs.Log.{Slot, denoted}
-use Rattle.journal.proofs.LogFacts.{Sound}
+use Rattle.journal.specs.Log.{Slot, denoted, Sound}
 use Rattle.history.specs.Desk.{spot}
 use Rattle.history.specs.Log.{State, Occupied, Puts}
 

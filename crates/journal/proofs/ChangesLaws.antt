@@ -10,7 +10,8 @@ use lib.Dec.{eqb}
 use borrow.Author.Tests.{eq-eqb, ne-eqb, eqb-true}
 use Rattle.layout.specs.Entries.{Write, stores, encoded}
 use Rattle.layout.specs.Trace.{written}
-use Rattle.layout.proofs.Groups.{Ascending, Differ, ascending-append, stores-append, length-stores}
+use Rattle.layout.specs.Homes.{Differ}
+use Rattle.layout.proofs.Groups.{Ascending, ascending-append, stores-append, length-stores}
 use Rattle.layout.proofs.Says.{by-test}
 use Rattle.layout.proofs.TraceLaws.{written-append, written-listed}
 use Rattle.journal.specs.Changes.{changeAt, changesIn, changesOf, changesBelow, Noted}

@@ -14,9 +14,9 @@ use Rattle.journal.specs.Lengths.{replayLength}
 use Rattle.layout.specs.Homes.{homesWrites}
 use Rattle.desk.specs.Desk.{noCopy}
 use Rattle.desk.specs.declared.state.RecordCopy.{RecordCopy}
-use Rattle.journal.specs.Log.{unsoundB, Slot, countOf, recOf, wordsOf, shortB, pairsOf, indexOf, wordOf, pairsWrites, denoted}
+use Rattle.journal.specs.Log.{unsoundB, Slot, countOf, recOf, wordsOf, shortB, pairsOf, indexOf, wordOf, pairsWrites, denoted, Sound, SoundFull, SoundShort}
 use Rattle.journal.proofs.LengthLaws.{recover-formula}
-use Rattle.journal.proofs.LogFacts.{Sound, SoundFull, SoundShort, sound-of, short-test, full-test, denotes-short, denotes-full}
+use Rattle.journal.proofs.LogFacts.{sound-of, short-test, full-test, denotes-short, denotes-full}
 use Rattle.journal.proofs.LogGroups.{length-pairs}
 
 pub denoted-length : (f : Slot) → length (denoted f) ≡ cond (shortB f) (pairsOf f) (4 * countOf f)

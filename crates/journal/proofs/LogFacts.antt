@@ -7,25 +7,9 @@ use mathlib.Core.Logic.{_⊎_, inl, inr}
 use native.Mathlib.Omega.{arith}
 use native.Mathlib.Decide.{ℕ-discrete, decLt}
 use borrow.Author.Tests.{le-leb, lt-leb}
-use Rattle.layout.specs.Homes.{homesWrites}
-use Rattle.journal.specs.Log.{Slot, countOf, recOf, wordsOf, shortB, pairsOf, indexOf, wordOf, pairsWrites, denoted, unsoundB}
+use Rattle.layout.specs.Homes.{homesWrites, Differ}
+use Rattle.journal.specs.Log.{SoundFull, SoundShort, Sound, Slot, countOf, recOf, wordsOf, shortB, pairsOf, indexOf, wordOf, pairsWrites, denoted, unsoundB}
 use Rattle.layout.proofs.Says.{Says, says-le, says-lt, says-eq, says-ne, says-and, says-or, says-any, says-if}
-use Rattle.layout.proofs.Groups.{Differ}
-
-pub record SoundFull (n : ℕ) (f : Slot) : Type 0 where
-  pub at-least : 1 ≤ countOf f
-  pub at-most : countOf f ≤ 4
-  pub below : (j : ℕ) → j < countOf f → recOf f j < n
-  pub differ : Differ (recOf f) (countOf f)
-
-pub record SoundShort (n : ℕ) (f : Slot) : Type 0 where
-  pub is-short : 16 ≤ countOf f
-  pub few : pairsOf f ≤ 9
-  pub below : (j : ℕ) → j < pairsOf f → indexOf f j < 4 * n
-  pub ascends : (i j : ℕ) → i < j → j < pairsOf f → indexOf f i < indexOf f j
-
-abbrev pub Sound : ℕ → Slot → Type 0
-Sound n f = SoundFull n f ⊎ SoundShort n f
 
 -- ---- the form
 

@@ -11,7 +11,7 @@ use lib.Dec.{leb, ltb}
 use borrow.Author.Tests.{lt-ltb, le-ltb, le-leb, ltb-false}
 use Rattle.layout.specs.Oldest.{oldestOf}
 use Rattle.layout.specs.declared.oldest.Oldest.{Oldest}
-use Rattle.layout.proofs.Groups.{Differ}
+use Rattle.layout.specs.Homes.{Differ}
 use Rattle.layout.proofs.Least.{oldest-is}
 use Rattle.layout.proofs.Says.{says-and, says-lt, says-le, by-test}
 use Rattle.journal.specs.Changes.{changesIn, changesBelow, keyAt, Noted, Gathered}

@@ -1,15 +1,16 @@
 -- The two forms of a log, and what a log denotes. The code of this crate writes and reads them, and the invariant and recovery speak of what
 -- this file says a log denotes (history/proofs/LogForm.antt has the laws that they need). A log is read by the words of its slot, by
--- their place: word 0 is the persist number. The full form (document 01) has in word 1 the count of copies, 1 to 4, then 4 places of 5
--- words, record number and record words. The short form (document 02, Req 08) has in word 1 16 + k, then k pairs of home word index and
--- new word, in ascending index.
-use Prim.Native.Nat.{ℕ, zero, suc, _+_, _-_, _*_, _/_}
+-- their place: word 0 is the persist number. Of the full form (document 01) word 1 counts the copies, up to 4, and each has five words
+-- behind it: its record's number and words. Of the short form (document 02, Req 08) word 1 is 16 more than the number of pairs, up to 9;
+-- a pair has two words, the index of a home word and what goes there, and the indexes go up.
+use Prim.Native.Nat.{ℕ, zero, suc, _+_, _-_, _*_, _/_, _≤_, _<_}
 use mathlib.Core.Bool.{Bool, _&&_, _||_, not, cond}
+use mathlib.Core.Logic.{_⊎_}
 use mathlib.Core.List.{List, [], _∷_, _++_}
 use lib.ListN.{length, getD}
 use lib.Dec.{leb, ltb, eqb}
 use Rattle.layout.specs.Below.{anyBelow}
-use Rattle.layout.specs.Homes.{homesWrites}
+use Rattle.layout.specs.Homes.{homesWrites, Differ}
 use Rattle.layout.specs.Entries.{Entry, store, fence, Write, stores}
 use Rattle.journal.specs.Changes.{changesBelow}
 
@@ -120,13 +121,29 @@ notAbove f j = not (eqb j 0) && leb (indexOf f j) (indexOf f (j - 1))
 abbrev pub badPair : ℕ → Slot → ℕ → Bool
 badPair n f j = ltb j (pairsOf f) && (leb (4 * n) (indexOf f j) || notAbove f j)
 
--- what it finds in an occupied slot: of the short form k above 9, an index out of range, or indexes that do not ascend; of the full one
--- count 0 or above 4, a record at or above N, or a record twice
+-- what it finds in an occupied slot: of a short log more than 9 pairs, an index past the home words, or one that is not larger than the
+-- one before; of a full log no copy or more than 4, a record that the store has not, or one in two places
 unfoldable pub unsoundB : ℕ → Slot → Bool
 unsoundB n f =
     not (eqb (f 0) 0)
     && cond (shortB f) (ltb 9 (pairsOf f) || anyBelow 9 (badPair n f))
     (eqb (countOf f) 0 || ltb 4 (countOf f) || anyBelow 4 (badPlace n f))
+
+-- what it leaves of an occupied slot: of the full form, of the short one, and of either
+pub record SoundFull (n : ℕ) (f : Slot) : Type 0 where
+  pub at-least : 1 ≤ countOf f
+  pub at-most : countOf f ≤ 4
+  pub below : (j : ℕ) → j < countOf f → recOf f j < n
+  pub differ : Differ (recOf f) (countOf f)
+
+pub record SoundShort (n : ℕ) (f : Slot) : Type 0 where
+  pub is-short : 16 ≤ countOf f
+  pub few : pairsOf f ≤ 9
+  pub below : (j : ℕ) → j < pairsOf f → indexOf f j < 4 * n
+  pub ascends : (i j : ℕ) → i < j → j < pairsOf f → indexOf f i < indexOf f j
+
+abbrev pub Sound : ℕ → Slot → Type 0
+Sound n f = SoundFull n f ⊎ SoundShort n f
 
 -- ---- check 13: the records that logs touch, whatever their forms
 

@@ -7,7 +7,7 @@ ghost use lib.Dec.{leb};
 ghost use lib.ListN.{getD};
 ghost use Rattle.layout.specs.Image.{homeWords};
 ghost use Rattle.layout.specs.Oldest.{oldestOf};
-ghost use Rattle.layout.proofs.Groups.{Differ};
+ghost use Rattle.layout.specs.Homes.{Differ};
 ghost use Rattle.desk.specs.Desk.{noCopy};
 ghost use Rattle.journal.specs.Changes.{changeAt, changesIn, changesBelow, keyAt, Noted, Gathered};
 use desk::RecordCopy;
@@ -74,8 +74,8 @@ fn note_changes(image: &[u64], pairs: &mut [u64; 26], k: usize, rec: u64, words:
     note_change(pairs, c, i + 3, home[3], words[3])
 }
 
-// The words of `count` copies that differ from the home records, as long as they are few enough for a short log: home word index and new
-// word of each in `pairs`; the answer is their number.
+// The words of `count` copies that differ from the home records: home word index and new word of each in `pairs`; the answer is their
+// number. It stops once they are too many for a short log, so there are at most 9 before the last copy is looked at, and its four: 26 words.
 pub fn gather(
     image: &[u64],
     n: u64,

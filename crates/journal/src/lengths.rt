@@ -48,7 +48,7 @@ fn recover_length(copies: u64) -> u64
     }
 }
 
-// What finish lists of `copies` copies of which k words differ from home: in the short form 2k + 4.
+// What finish lists of `copies` copies of which k words differ from home, or more than a short log takes: in the short form 2k + 4.
 pub fn seal_length(k: u64, copies: u64) -> u64
     requires { ⌜ (k ≤ 13) × (copies ≤ 4) ⌝ }
     ensures { λ r. ⌜ r ≡ sealLength k copies ⌝ }

@@ -129,7 +129,7 @@ fn put_body(
 }
 
 // A log, in the slot that starts at `base` of the image: its body, a fence, the persist number, a fence. `pairs` has the k words of the
-// copies that differ from the home records.
+// copies that differ from the home records, or k is too large for a short log.
 pub fn write_log(
     slot: &mut [u64],
     base: u64,

@@ -37,6 +37,7 @@ fn bad_place(image: &[u64], n: u64, place: u64, j: u64) -> bool
     (j < count) & ((n <= rec) | twice)
 }
 
+// Whether a place in use is bad.
 fn bad_places(image: &[u64], n: u64, place: u64) -> bool
     requires { ⌜ (n ≤ 256) × (place ≤ 32) ⌝ }
     ensures { λ r. ⌜ r ≡ anyBelow 4 (badPlace n (slotWord (now (image .entry)) n place)) ⌝ }
@@ -94,6 +95,7 @@ fn bad_pair(image: &[u64], n: u64, place: u64, j: u64) -> bool
     (j < count) & ((4 * n <= index) | low)
 }
 
+// Whether a pair in use is bad.
 fn bad_pairs(image: &[u64], n: u64, place: u64) -> bool
     requires { ⌜ (n ≤ 256) × (place ≤ 32) ⌝ }
     ensures { λ r. ⌜ r ≡ anyBelow 9 (badPair n (slotWord (now (image .entry)) n place)) ⌝ }

@@ -1,6 +1,6 @@
 -- Fence groups: when no index of a list of stores appears twice.
 use Prim.Native.Nat.{ℕ, zero, suc, _+_, _*_, _≤_, _<_}
-use mathlib.Core.Bool.{true, not}
+use mathlib.Core.Bool.{true}
 use mathlib.Core.Path.{_≡_, refl, sym, ap}
 use mathlib.Core.List.{List, [], _∷_, _++_}
 use mathlib.Core.Logic.{_⊎_, inl, inr, ⊎-elim}
@@ -11,7 +11,7 @@ use lib.ListN.{length, length-append}
 use borrow.Author.Tests.{eqb-true, eqb-false, eq-eqb, ne-eqb}
 use Rattle.layout.specs.Entries.{Entry, store, fence, Write, stores, shift, notAgain, once, endsFenced}
 use Rattle.layout.specs.Image.{homeAt}
-use Rattle.layout.specs.Homes.{homeWrites, homesWrites}
+use Rattle.layout.specs.Homes.{homeWrites, homesWrites, Differ}
 use Rattle.layout.proofs.Says.{by-test}
 
 -- index i is not among the writes, and no index is there twice
@@ -79,10 +79,6 @@ home-avoids r q ws n = (apart _ (omega arith) (omega arith), (apart _ (omega ari
   where
     apart : (i : ℕ) → homeAt q ≤ i → i < homeAt (suc q) → (i < homeAt r) ⊎ (homeAt (suc r) ≤ i)
     apart i l h = elim (decLt r q) [ yes u ↦ inr (omega arith) | no u ↦ inl (omega arith) ]
-
--- the first k records differ
-abbrev pub Differ : (ℕ → ℕ) → ℕ → Type 0
-Differ rec k = (i j : ℕ) → i < j → j < k → rec i ≡ rec j → ⊥
 
 homes-avoid : (rec : ℕ → ℕ) (words : ℕ → List ℕ) (r k : ℕ) → ((j : ℕ) → j < k → r ≡ rec j → ⊥) → Avoids (homeAt r) (homeAt (suc r)) (homesWrites rec words k)
 unfolding homesWrites

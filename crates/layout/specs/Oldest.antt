@@ -1,5 +1,5 @@
--- The oldest of some numbers, which stand for logs (their persist numbers) or for readers (their starts): the smallest, the lowest place
--- first among equals. 0 stands for one that is left out, since no log and no reader has the number 0.
+-- The oldest of some numbers, which stand for logs (their persist numbers), for readers (their starts) or for copies (their records plus
+-- 1): the smallest, the lowest place first among equals. 0 stands for one that is left out, since none of these has the number 0.
 use Prim.Native.Nat.{ℕ, zero, suc}
 use mathlib.Core.Bool.{not, _&&_, _||_, cond}
 use lib.Dec.{ltb, eqb}

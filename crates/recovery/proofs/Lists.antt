@@ -16,10 +16,10 @@ use Rattle.layout.proofs.ChecksLaws.{first-both, unless-zero}
 use Rattle.layout.proofs.TidyLaws.{tidy-none, tidy-cond, tidy-answered, tidy-list}
 use Rattle.layout.proofs.Groups.{length-stores, once-group, ends-append}
 use Rattle.journal.specs.Lengths.{replayLength}
-use Rattle.journal.specs.Log.{countOf, shortB, pairsOf, denoted, unsoundB}
+use Rattle.journal.specs.Log.{countOf, shortB, pairsOf, denoted, unsoundB, Sound}
 use Rattle.layout.proofs.Least.{oldest-is}
 use Rattle.journal.proofs.DenotedLaws.{denoted-length, denoted-distinct, denoted-few, replay-counted}
-use Rattle.journal.proofs.LogFacts.{Sound, sound-of}
+use Rattle.journal.proofs.LogFacts.{sound-of}
 use Rattle.recovery.specs.Recover.{slotsOf, logAt, unsoundPlace, recoverFault, firstLog, cleanB, recoverEntries, replayEntries, recoverRefused, recoverReply}
 use Rattle.recovery.specs.declared.recovering.RecoverReply.{RecoverReply}
 use Rattle.recovery.specs.declared.recovering.RecoverAnswer.the-variants.{Refused, Unsound}
