@@ -1,5 +1,6 @@
 -- Finish gives what is due.
 use Prim.Native.Nat.{ℕ, zero, suc, _+_, _*_, _<_}
+use mathlib.Core.Bool.{true, false≢true}
 use mathlib.Core.Path.{_≡_, refl, sym, ap, subst, _∙_}
 use mathlib.Core.Logic.{_⊎_, inl, inr}
 use mathlib.Core.List.{List, [], _∷_}
@@ -7,17 +8,17 @@ use native.Mathlib.Omega.{arith}
 use lib.ListN.{length, getD}
 use lib.Seq.{getD-set-same, getD-set-other}
 use borrow.Author.Tests.{lt-ltb, le-ltb, eq-eqb, ne-eqb}
-use Rattle.layout.specs.Checks.{roomFor}
+use Rattle.layout.specs.Checks.{unless, roomFor}
 use Rattle.layout.specs.Entries.{Entry, store, fence, Write, shift}
 use Rattle.layout.specs.Image.{homeWords, placeOf, slotAt}
 use Rattle.layout.specs.Told.{sealedAt}
-use Rattle.layout.proofs.ChecksLaws.{first-both, answered-zero}
+use Rattle.layout.proofs.ChecksLaws.{first-both, unless-zero, answered-zero}
 use Rattle.layout.specs.Homes.{Differ}
 use Rattle.journal.specs.Log.{bodyWrites, shortWrites, indexIn, wordIn, sealedBody}
 use Rattle.journal.proofs.ChangesLaws.{below-ascending}
 use Rattle.journal.proofs.LogGroups.{length-body, length-short, either-short, either-full}
 use Rattle.journal.proofs.Positions.{write, pair-index, pair-word, short-count, place-record, place-words, body-count}
-use Rattle.desk.specs.Desk.{noSession, copiedRec, copiedWords, sessionAt, idleSession, withPhase, putSession}
+use Rattle.desk.specs.Desk.{noSession, copiedRec, copiedWords, sessionAt, isActive, idleSession, withPhase, putSession}
 use Rattle.desk.specs.declared.state.Phase.the-variants.{Sealed}
 use Rattle.desk.specs.Entering.{imageFault}
 use Rattle.desk.specs.declared.state.Session.{Session}
@@ -32,7 +33,7 @@ use Rattle.history.specs.Call.{finish}
 use Rattle.history.specs.Log.{In}
 use Rattle.history.proofs.Changed.{in-below, below-in, at-in, in-at, index-ascends}
 use Rattle.claims.specs.ByEntry.{entry, Closes}
-use Rattle.claims.specs.FinishDue.{copyWord, homeIndex, homeWord, Differs, Pairs, reservedIndex, ListsPairs, ListsCopies, SealedDesk, Seals, FinishDue}
+use Rattle.claims.specs.FinishDue.{copyWord, homeIndex, homeWord, Differs, Pairs, reservedIndex, ListsPairs, ListsCopies, DeskWith, Seals, Empties, FinishDue}
 use Rattle.claims.specs.Rules.{storeRules}
 use Rattle.claims.proofs.ByEntry.{closed, closed-moved, entry-stored, entry-moved}
 use Rattle.claims.proofs.Lists.{lists}
@@ -146,11 +147,25 @@ module _ (img : List ℕ) (d : Desk) (s : ℕ) (below : (j : ℕ) → j < sessio
 
 -- ---- past the checks
 
--- a session with copies is one of the desk's
-inside : (xs : List Session) (s : ℕ) → (getD xs s noSession .count ≡ 0 → ⊥) → s < length xs
-inside [] s h = absurd (h refl)
-inside (x ∷ xs) zero h = omega arith
-inside (x ∷ xs) (suc s) h = omega (arith, inside xs s h)
+-- an active session is one of the desk's
+inside : (xs : List Session) (s : ℕ) → isActive (getD xs s noSession .phase) ≡ true → s < length xs
+inside [] s e = absurd (false≢true e)
+inside (x ∷ xs) zero e = omega arith
+inside (x ∷ xs) (suc s) e = omega (arith, inside xs s e)
+
+-- a desk with another session in its place
+desk-with : (img : List ℕ) (d : Desk) (len s : ℕ) → finishFault img d len s ≡ 0 → (x : Session) → DeskWith d s x (putSession d s x)
+unfolding finishFault
+desk-with img d len s z x =
+    let active = unless-zero _ 5 (first-both (unless (isActive (sessionAt d s .phase)) 6) _ (first-both (imageFault img d (roomFor len) s) _ z .1) .0) in
+    record {
+      session = getD-set-same (d .sessions) s x noSession (inside (d .sessions) s active);
+      others = λ t n. getD-set-other (d .sessions) s t x noSession n;
+      clock = refl;
+      marks = refl;
+      n-same = refl;
+      m-same = refl;
+    }
 
 module _ (img : List ℕ) (d : Desk) (len s : ℕ) (z : finishFault img d len s ≡ 0) (some : sessionAt d s .count ≡ 0 → ⊥) where
   abbrev c : ℕ
@@ -177,18 +192,6 @@ module _ (img : List ℕ) (d : Desk) (len s : ℕ) (z : finishFault img d len s 
   unfolding finishReply
   desk-is = ap (λ (r : FinishReply). r .desk) (answered-zero (finishFault img d len s) _ _ z) ∙ rw (ne-eqb c 0 some)
 
-  left : SealedDesk d s (storeRules .call img d (finish len s) .desk)
-  left =
-      rw desk-is
-      (record {
-        session = getD-set-same (d .sessions) s _ noSession (inside (d .sessions) s some);
-        others = λ t n. getD-set-other (d .sessions) s t _ noSession n;
-        clock = refl;
-        marks = refl;
-        n-same = refl;
-        m-same = refl;
-      })
-
   seals : Seals img d s (storeRules .call img d (finish len s))
   seals =
       record {
@@ -206,7 +209,7 @@ module _ (img : List ℕ) (d : Desk) (len s : ℕ) (z : finishFault img d len s 
             (lists-copies img d s);
         told = told;
         count = lists .finish img d len s .counted;
-        desk = left;
+        desk = rw desk-is (desk-with img d len s z (withPhase (sessionAt d s) (Sealed (d .clock))));
       }
 
 module _ (img : List ℕ) (d : Desk) (len s : ℕ) (z : finishFault img d len s ≡ 0) (none : sessionAt d s .count ≡ 0) where
@@ -218,11 +221,18 @@ module _ (img : List ℕ) (d : Desk) (len s : ℕ) (z : finishFault img d len s 
   unfolding finishEntries
   no-entries = answered-zero (finishFault img d len s) _ _ z ∙ rw (eq-eqb (sessionAt d s .count) 0 none)
 
+  empties : Empties d s (storeRules .call img d (finish len s))
+  empties =
+      record {
+        told = ap (λ (x : FinishReply). finishTold (x .answer)) empty-reply;
+        entries = no-entries;
+        count = ap (λ (x : FinishReply). x .entries) empty-reply;
+        desk = rw (ap (λ (x : FinishReply). x .desk) empty-reply) (desk-with img d len s z idleSession);
+      }
+
 pub finish-due : FinishDue storeRules
 finish-due =
     record {
       seals = λ img d len s z. seals img d len s (finish-row img d len s ∙ z);
-      empties = λ img d len s z e.
-          let r = empty-reply img d len s (finish-row img d len s ∙ z) e in
-          (ap (λ (x : FinishReply). finishTold (x .answer)) r, no-entries img d len s (finish-row img d len s ∙ z) e, ap (λ (x : FinishReply). x .entries) r);
+      empties = λ img d len s z e. empties img d len s (finish-row img d len s ∙ z) e;
     }

@@ -1,10 +1,10 @@
 -- Every list of entries is tidy, and each number of the table is the formula's.
 use mathlib.Core.Path.{refl}
-use Rattle.commit.proofs.Lists.{finish-tidy, settle-tidy, reclaim-tidy, finish-length, settle-length}
+use Rattle.commit.proofs.Lists.{finish-tidy, settle-tidy, reclaim-tidy}
 use Rattle.desk.proofs.PublishLaws.{publish-tidy}
 use Rattle.desk.proofs.GroupLaws.{group-tidy}
 use Rattle.recovery.proofs.OpenLaws.{open-tidy}
-use Rattle.recovery.proofs.Lists.{recover-tidy, recover-length}
+use Rattle.recovery.proofs.Lists.{recover-tidy}
 use Rattle.listening.proofs.FinishLaws.{no-entries}
 use Rattle.journal.specs.Lengths.{finishLength, settleLength, recoverLength}
 use Rattle.claims.specs.Lists.{Lists, LengthTable}
@@ -20,11 +20,8 @@ lists =
       reclaim = reclaim-tidy;
       listen-finish = no-entries;
       recover = recover-tidy;
-      finish-count = finish-length;
-      settle-count = settle-length;
       reclaim-count = λ img d s. refl;
       raise-count = λ clock. refl;
-      recover-count = recover-length;
     }
 
 pub length-table : LengthTable

@@ -4,12 +4,13 @@
 use Prim.Native.Nat.{ℕ, suc, _+_, _*_, _≤_, _<_}
 use mathlib.Core.Path.{_≡_}
 use mathlib.Core.List.{List, []}
-use lib.ListN.{length, getD}
+use lib.ListN.{length, getD, replicate}
 use Rattle.layout.specs.Entries.{Entry, store}
 use Rattle.layout.specs.Image.{word}
 use Rattle.layout.specs.Told.{empty, sealedAt}
-use Rattle.desk.specs.Desk.{copiedRec, copiedWords, sessionAt}
-use Rattle.desk.specs.declared.state.Phase.the-variants.{Sealed}
+use Rattle.desk.specs.Desk.{zeroCopy, copiedRec, copiedWords, sessionAt}
+use Rattle.desk.specs.declared.state.Phase.the-variants.{Idle, Sealed}
+use Rattle.desk.specs.declared.state.Session.{Session}
 use Rattle.desk.specs.declared.state.Desk.{Desk}
 use Rattle.history.specs.Call.{finish}
 use Rattle.claims.specs.ByEntry.{entry, slotIndex, Closes}
@@ -64,10 +65,9 @@ pub record ListsCopies (d : Desk) (s : ℕ) (es : List Entry) : Type 0 where
       → entry es (2 + 5 * j + m) ≡ store (reservedIndex d s (3 + 5 * j + m)) (copyWord d s j m)
   pub closes : Closes es (1 + 5 * sessionAt d s .count) (reservedIndex d s 0) (d .clock)
 
--- the desk behind it: the session is sealed with the number, and all else is as it was
-pub record SealedDesk (d : Desk) (s : ℕ) (e : Desk) : Type 0 where
-  pub session : sessionAt e s
-      ≡ record { phase = Sealed (d .clock); count = sessionAt d s .count; slot = sessionAt d s .slot; copies = sessionAt d s .copies }
+-- the desk e behind it: session s is x, and all else is as it was
+pub record DeskWith (d : Desk) (s : ℕ) (x : Session) (e : Desk) : Type 0 where
+  pub session : sessionAt e s ≡ x
   pub others : (t : ℕ) → (t ≡ s → ⊥) → sessionAt e t ≡ sessionAt d t
   pub clock : e .clock ≡ d .clock
   pub marks : e .holders ≡ d .holders
@@ -84,7 +84,16 @@ pub record Seals (img : List ℕ) (d : Desk) (s : ℕ) (y : Reply) : Type 0 wher
   pub full : 5 * sessionAt d s .count ≤ 2 * k → ListsCopies d s (y .entries)
   pub told : y .told ≡ sealedAt (d .clock)
   pub count : y .count ≡ length (y .entries)
-  pub desk : SealedDesk d s (y .desk)
+  -- the session is sealed with the number
+  pub desk : DeskWith d s
+      (record { phase = Sealed (d .clock); count = sessionAt d s .count; slot = sessionAt d s .slot; copies = sessionAt d s .copies }) (y .desk)
+
+-- without copies nothing is stored, and the session is idle
+pub record Empties (d : Desk) (s : ℕ) (y : Reply) : Type 0 where
+  pub told : y .told ≡ empty
+  pub entries : y .entries ≡ []
+  pub count : y .count ≡ 0
+  pub desk : DeskWith d s (record { phase = Idle; count = 0; slot = 0; copies = replicate 4 zeroCopy }) (y .desk)
 
 -- no cause of its row holds
 abbrev pub Accepted : List ℕ → Desk → ℕ → ℕ → Type 0
@@ -92,6 +101,4 @@ Accepted img d len s = firstRefusal (row (finish len s)) (given img d (finish le
 
 pub record FinishDue (R : Rules) : Type 0 where
   pub seals : (img : List ℕ) (d : Desk) (len s : ℕ) → Accepted img d len s → (sessionAt d s .count ≡ 0 → ⊥) → Seals img d s (R .call img d (finish len s))
-  -- without copies
-  pub empties : (img : List ℕ) (d : Desk) (len s : ℕ) → Accepted img d len s → sessionAt d s .count ≡ 0
-      → (R .call img d (finish len s) .told ≡ empty) × (R .call img d (finish len s) .entries ≡ []) × (R .call img d (finish len s) .count ≡ 0)
+  pub empties : (img : List ℕ) (d : Desk) (len s : ℕ) → Accepted img d len s → sessionAt d s .count ≡ 0 → Empties d s (R .call img d (finish len s))

@@ -1,23 +1,20 @@
 -- Laws of every list of entries (document 01, "Stores and fences").
 use Prim.Native.Nat.{ℕ, _+_, _*_}
-use mathlib.Core.Bool.{cond}
 use mathlib.Core.Path.{_≡_}
 use mathlib.Core.List.{List}
 use lib.ListN.{length}
 use Rattle.layout.specs.Ceiling.{raiseEntries}
 use Rattle.layout.specs.Tidy.{Tidy}
 use Rattle.journal.specs.Lengths.{finishLength, settleLength, recoverLength}
-use Rattle.journal.specs.Log.{countOf, shortB, pairsOf, shorterB}
-use Rattle.desk.specs.Desk.{sessionAt}
 use Rattle.desk.specs.Publish.{publishFault, publishEntries, publishReply}
 use Rattle.desk.specs.Group.{groupFault, groupEntries, groupReply}
 use Rattle.desk.specs.declared.state.Desk.{Desk}
-use Rattle.commit.specs.Finish.{finishFault, finishEntries, changedWords, sealEntries, finishReply}
-use Rattle.commit.specs.Settle.{settleFault, settleEntries, goHomeEntries, settleReply}
+use Rattle.commit.specs.Finish.{finishFault, finishEntries, finishReply}
+use Rattle.commit.specs.Settle.{settleFault, settleEntries, settleReply}
 use Rattle.commit.specs.Reclaim.{reclaimFault, reclaimEntries, clearEntries, reclaimReply}
 use Rattle.listening.specs.Finish.{listenFinishReply}
 use Rattle.recovery.specs.Open.{openFault, openEntries, openReply}
-use Rattle.recovery.specs.Recover.{logAt, recoverFault, recoverEntries, replayEntries, recoverReply}
+use Rattle.recovery.specs.Recover.{recoverFault, recoverEntries, recoverReply}
 
 pub record Lists : Type 0 where
   pub opens : (img : List ℕ) (len : ℕ) → Tidy (openFault img len) (openReply img len .entries) (openEntries img len)
@@ -34,15 +31,9 @@ pub record Lists : Type 0 where
   -- the listening room's finish lists none
   pub listen-finish : (img : List ℕ) (d : Desk) (len s : ℕ) → listenFinishReply img d len s .entries ≡ 0
   pub recover : (img : List ℕ) (len : ℕ) → Tidy (recoverFault img len) (recoverReply img len .entries) (recoverEntries img len)
-  -- the entry counts: finish's by the number c of copies and the number k of their words that differ from home, 2k + 4 where 2k is less
-  -- than 5c, else 5c + 4; recover's k + 3 of a short log
-  pub finish-count : (img : List ℕ) (d : Desk) (s : ℕ) → let k = length (changedWords img d s) in
-      length (sealEntries img d s) ≡ cond (shorterB k (sessionAt d s .count)) (2 * k + 4) (5 * sessionAt d s .count + 4)
-  pub settle-count : (d : Desk) (s : ℕ) → length (goHomeEntries d s) ≡ 4 * sessionAt d s .count + 1
+  -- two entries each; `FinishDue`, `SettleDue` and `RecoverDue` have how many finish, settle and recover list
   pub reclaim-count : (img : List ℕ) (d : Desk) (s : ℕ) → length (clearEntries img d s) ≡ 2
   pub raise-count : (clock : ℕ) → length (raiseEntries clock) ≡ 2
-  pub recover-count : (img : List ℕ) (p : ℕ)
-      → length (replayEntries img p) ≡ cond (shortB (logAt img p)) (pairsOf (logAt img p)) (4 * countOf (logAt img p)) + 3
 
 -- The table of document 02's Req 04, number by number: each is document 01's formula, 5c + 4, 4c + 1 or 4c + 3, for c copies.
 pub record LengthTable : Type 0 where

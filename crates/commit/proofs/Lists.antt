@@ -1,6 +1,6 @@
 -- Every list of entries of finish, settle and reclaim is tidy.
 use Prim.Native.Nat.{ℕ, _+_, _*_}
-use mathlib.Core.Bool.{or-true, cond}
+use mathlib.Core.Bool.{or-true}
 use mathlib.Core.Path.{_≡_, refl, sym, _∙_}
 use mathlib.Core.List.{List, [], _∷_}
 use native.Mathlib.Omega.{arith}
@@ -17,9 +17,9 @@ use Rattle.layout.proofs.TraceLaws.{length-shift}
 use Rattle.layout.proofs.TidyLaws.{tidy-none, tidy-cond, tidy-answered, tidy-list}
 use Rattle.layout.proofs.Groups.{homes-distinct, length-homes, length-stores, once-group, once-shift, ends-append, ends-shift}
 use Rattle.journal.specs.Lengths.{settleLength, sealLength}
-use Rattle.journal.specs.Log.{indexIn, wordIn, shorterB, logEntries}
+use Rattle.journal.specs.Log.{indexIn, wordIn, logEntries}
 use Rattle.journal.proofs.LengthLaws.{settle-formula}
-use Rattle.journal.proofs.LogGroups.{either-length, either-counted, either-few, either-once, either-ends}
+use Rattle.journal.proofs.LogGroups.{either-counted, either-few, either-once, either-ends}
 use Rattle.desk.specs.Desk.{copiedRec, copiedWords, sessionAt, isSealed, isPublished}
 use Rattle.desk.specs.Entering.{imageFault}
 use Rattle.desk.specs.declared.state.Desk.{Desk}
@@ -31,14 +31,6 @@ use Rattle.commit.specs.Reclaim.{reclaimFault, reclaimEntries, clearEntr
 use Rattle.commit.specs.declared.finishing.FinishReply.{FinishReply}
 use Rattle.commit.specs.declared.settling.SettleReply.{SettleReply}
 use Rattle.commit.specs.declared.reclaiming.ReclaimReply.{ReclaimReply}
-
-pub finish-length : (img : List ℕ) (d : Desk) (s : ℕ) → let k = length (changedWords img d s) in
-    length (sealEntries img d s) ≡ cond (shorterB k (sessionAt d s .count)) (2 * k + 4) (5 * sessionAt d s .count + 4)
-finish-length img d s =
-    let ws = changedWords img d s in
-    length-shift (slotAt (d .n) (placeOf s (sessionAt d s .slot)))
-    (logEntries (d .n) (homeWords img) (d .clock) (copiedRec (sessionAt d s)) (copiedWords (sessionAt d s)) (sessionAt d s .count))
-    ∙ either-length (indexIn ws) (wordIn ws) (length ws) (copiedRec (sessionAt d s)) (copiedWords (sessionAt d s)) (sessionAt d s .count) (d .clock)
 
 pub finish-tidy : (img : List ℕ) (d : Desk) (len s : ℕ) → Tidy (finishFault img d len s) (finishReply img d len s .entries) (finishEntries img d len s)
 unfolding finishReply finishEntries finishFault

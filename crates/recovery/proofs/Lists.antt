@@ -1,7 +1,7 @@
 -- Every list of entries of recover is tidy.
-use Prim.Native.Nat.{ℕ, _+_, _*_}
+use Prim.Native.Nat.{ℕ, _+_}
 use mathlib.Core.Bool.{Bool, true, false, cond}
-use mathlib.Core.Path.{_≡_, refl, sym, ap, _∙_}
+use mathlib.Core.Path.{_≡_, refl, sym, _∙_}
 use mathlib.Core.List.{List, [], _∷_}
 use native.Mathlib.Omega.{arith}
 use lib.ListN.{length, length-append}
@@ -16,9 +16,9 @@ use Rattle.layout.proofs.ChecksLaws.{first-both, unless-zero}
 use Rattle.layout.proofs.TidyLaws.{tidy-none, tidy-cond, tidy-answered, tidy-list}
 use Rattle.layout.proofs.Groups.{length-stores, once-group, ends-append}
 use Rattle.journal.specs.Lengths.{replayLength}
-use Rattle.journal.specs.Log.{countOf, shortB, pairsOf, denoted, unsoundB, Sound}
+use Rattle.journal.specs.Log.{denoted, unsoundB, Sound}
 use Rattle.layout.proofs.Least.{oldest-is}
-use Rattle.journal.proofs.DenotedLaws.{denoted-length, denoted-distinct, denoted-few, replay-counted}
+use Rattle.journal.proofs.DenotedLaws.{denoted-distinct, denoted-few, replay-counted}
 use Rattle.journal.proofs.LogFacts.{sound-of}
 use Rattle.recovery.specs.Recover.{slotsOf, logAt, unsoundPlace, recoverFault, firstLog, cleanB, recoverEntries, replayEntries, recoverRefused, recoverReply}
 use Rattle.recovery.specs.declared.recovering.RecoverReply.{RecoverReply}
@@ -31,9 +31,6 @@ replay-length img p =
       length-append (stores (denoted (logAt img p))) (fence ∷ store (slotAt (recordsOf img) p) 0 ∷ fence ∷ []),
       length-stores (denoted (logAt img p)),
     )
-
-pub recover-length : (img : List ℕ) (p : ℕ) → length (replayEntries img p) ≡ cond (shortB (logAt img p)) (pairsOf (logAt img p)) (4 * countOf (logAt img p)) + 3
-recover-length img p = replay-length img p ∙ ap (λ n. n + 3) (denoted-length (logAt img p))
 
 -- the log that is taken has passed check 12
 pub taken-passed : (img : List ℕ) (len : ℕ) → recoverFault img len ≡ 0 → cleanB img ≡ false
