@@ -167,6 +167,7 @@ fn mark_of(session: usize) -> u8 {
     session as u8 + 1
 }
 
+/// The first `active` places of the list are the active sessions in the order they began; the others are zero.
 #[derive(Clone, Copy)]
 struct Desk {
     clock: u64,
@@ -174,6 +175,8 @@ struct Desk {
     m: usize,
     marks: [u8; RECORDS],
     sessions: [Session; SESSIONS],
+    active: usize,
+    order: [u8; SESSIONS],
 }
 
 impl Session {
@@ -248,7 +251,39 @@ fn gather(bits: &mut Words, words: &Words) {
 
 impl Desk {
     fn new(clock: u64, n: usize, m: usize) -> Desk {
-        Desk { clock, n, m, marks: [UNMARKED; RECORDS], sessions: [IDLE; SESSIONS] }
+        let (marks, sessions, order) = ([UNMARKED; RECORDS], [IDLE; SESSIONS], [0; SESSIONS]);
+        Desk { clock, n, m, marks, sessions, active: 0, order }
+    }
+
+    /// The start of an active session; none of any other, and of a number that is no session.
+    fn start(&self, session: u8) -> Option<u64> {
+        match self.sessions.get(session as usize)?.phase {
+            Phase::Active(start) => Some(start),
+            _ => None,
+        }
+    }
+
+    /// Puts a session that becomes active behind the others.
+    fn join(&mut self, session: usize) {
+        self.order[self.active] = session as u8;
+        self.active += 1;
+    }
+
+    /// Takes a session that was active out of the list; those behind it move up.
+    fn leave(&mut self, session: usize) {
+        let listed = &mut self.order[..self.active];
+        let place = listed.iter().position(|&other| other as usize == session).expect("listed");
+        listed.copy_within(place + 1.., place);
+        self.active -= 1;
+        self.order[self.active] = 0;
+    }
+
+    /// The active session with the smallest start below an end, the lowest of them: it stands in the front run of
+    /// equal starts.
+    fn oldest_reader(&self, end: u64) -> Option<u8> {
+        let listed = &self.order[..self.active];
+        let first = self.start(*listed.first()?).filter(|&start| start < end)?;
+        listed.iter().copied().take_while(|&session| self.start(session) == Some(first)).min()
     }
 
     /// Drops a session's marks and copies; it is idle.
@@ -260,16 +295,37 @@ impl Desk {
         *own = IDLE;
     }
 
-    /// Check 2 without the image's header: every rule, all marks and all sessions.
+    /// Whether the list has so many active sessions, each once, with starts that do not fall, and zero behind them.
+    fn in_order(&self, active: usize) -> bool {
+        if self.active != active {
+            return false;
+        }
+        let (mut seen, mut last) = (0u16, 0);
+        for &session in &self.order[..active] {
+            match self.start(session) {
+                Some(start) if start >= last => last = start,
+                _ => return false,
+            }
+            seen |= 1 << session;
+        }
+        let unused = u128::from_le_bytes(self.order).unbounded_shr(8 * active as u32);
+        seen.count_ones() as usize == active && unused == 0
+    }
+
+    /// Check 2 without the image's header: every rule, all marks, all sessions and the list.
     #[inline(never)]
     fn coherent(&self) -> bool {
         let clock = self.clock;
         if !(1..=L + 16).contains(&clock) || !in_range(self.n as u64, self.m as u64) {
             return false;
         }
-        let (mut marks, mut unused, mut sealed) = (self.marks, [0; 4], 0);
+        let (mut marks, mut unused, mut sealed, mut active) = (self.marks, [0; 4], 0, 0);
         for (s, entry) in self.sessions.iter().enumerate() {
-            sealed += matches!(entry.phase, Phase::Sealed(_)) as u64;
+            match entry.phase {
+                Phase::Active(_) => active += 1,
+                Phase::Sealed(_) => sealed += 1,
+                _ => {}
+            }
             if !entry.fits(clock, s < self.m) {
                 return false;
             }
@@ -278,7 +334,7 @@ impl Desk {
             }
         }
         let left = marks.iter().fold(UNMARKED, |bits, mark| bits | mark);
-        clock + sealed <= L + 16 && left == UNMARKED && unused == [0; 4]
+        clock + sealed <= L + 16 && left == UNMARKED && unused == [0; 4] && self.in_order(active)
     }
 }
 
@@ -397,6 +453,7 @@ impl<const CHECKS: bool> Store<CHECKS> {
         let own = &mut self.desk.sessions[session];
         let Phase::Idle = own.phase else { return Err(6) };
         own.phase = Phase::Active(self.desk.clock);
+        self.desk.join(session);
         Ok(Answer::Start(self.desk.clock))
     }
 
@@ -415,6 +472,7 @@ impl<const CHECKS: bool> Store<CHECKS> {
     fn abandon(&mut self, session: usize) -> Reply<'static> {
         self.enter(Takes::Desk, session)?;
         let Phase::Active(_) = self.desk.sessions[session].phase else { return Err(6) };
+        self.desk.leave(session);
         self.desk.clear(session);
         Ok(Answer::Ok)
     }
@@ -456,6 +514,7 @@ impl<const CHECKS: bool> Store<CHECKS> {
             return Ok(Answer::Ok);
         }
         if mark != UNMARKED {
+            desk.leave(session);
             desk.clear(session);
             return Err(7);
         }
@@ -479,6 +538,7 @@ impl<const CHECKS: bool> Store<CHECKS> {
         let Phase::Active(_) = own.phase else { return Err(6) };
         if own.count == 0 {
             own.phase = Phase::Idle;
+            self.desk.leave(session);
             return Ok(Answer::Empty);
         }
         if clock >= L {
@@ -501,6 +561,7 @@ impl<const CHECKS: bool> Store<CHECKS> {
         trace.store(image, at, clock);
         trace.fence();
         own.phase = Phase::Sealed(clock);
+        self.desk.leave(session);
         Ok(Answer::Sealed(clock))
     }
 
@@ -508,12 +569,8 @@ impl<const CHECKS: bool> Store<CHECKS> {
         self.enter(Takes::Trace, session)?;
         let desk = &mut self.desk;
         let Phase::Published(end) = desk.sessions[session].phase else { return Err(6) };
-        let readers = desk.sessions[..desk.m].iter().enumerate().filter_map(|(reader, entry)| match entry.phase {
-            Phase::Active(start) if start < end => Some((start, reader)),
-            _ => None,
-        });
-        if let Some((_, reader)) = readers.min() {
-            return Ok(Answer::Wait(reader));
+        if let Some(reader) = desk.oldest_reader(end) {
+            return Ok(Answer::Wait(reader as usize));
         }
         for (record, words) in desk.sessions[session].copies() {
             self.trace.store_all(&mut self.image, home_at(record), words);
@@ -948,6 +1005,25 @@ mod tests {
         reply.err().unwrap_or(0)
     }
 
+    /// Lists these sessions, in this order.
+    fn list(desk: &mut Desk, sessions: &[u8]) {
+        (desk.active, desk.order) = (sessions.len(), [0; SESSIONS]);
+        desk.order[..sessions.len()].copy_from_slice(sessions);
+    }
+
+    /// The sessions that are listed; the places behind them are zero.
+    fn listed(desk: &Desk) -> &[u8] {
+        let (listed, unused) = desk.order.split_at(desk.active);
+        assert!(unused.iter().all(|&session| session == 0));
+        listed
+    }
+
+    /// Puts a session into a phase and lists these.
+    fn put(desk: &mut Desk, session: usize, phase: Phase, sessions: &[u8]) {
+        desk.sessions[session].phase = phase;
+        list(desk, sessions);
+    }
+
     fn coherent_after(edit: impl Fn(&mut Desk)) -> bool {
         let mut desk = busy().desk;
         edit(&mut desk);
@@ -969,7 +1045,7 @@ mod tests {
             &[
                 ("as it is", |_| {}),
                 ("clock and sealed at the most", |d| d.clock = L + 15),
-                ("start at the clock", |d| d.sessions[0].phase = Phase::Active(9)),
+                ("start at the clock", |d| put(d, 0, Phase::Active(9), &[1, 0])),
                 ("start 1", |d| d.sessions[0].phase = Phase::Active(1)),
                 ("end 2", |d| d.sessions[3].phase = Phase::Published(2)),
                 ("slot 1", |d| d.sessions[1].slot = 1),
@@ -1002,13 +1078,13 @@ mod tests {
         all_give(
             false,
             &[
-                ("idle with a copy", |d| d.sessions[1].phase = Phase::Idle),
+                ("idle with a copy", |d| put(d, 1, Phase::Idle, &[0])),
                 ("idle with a count", |d| d.sessions[4].count = 1),
-                ("sealed without copies", |d| d.sessions[0].phase = Phase::Sealed(7)),
-                ("published without copies", |d| d.sessions[0].phase = Phase::Published(7)),
+                ("sealed without copies", |d| put(d, 0, Phase::Sealed(7), &[1])),
+                ("published without copies", |d| put(d, 0, Phase::Published(7), &[1])),
                 ("five copies", |d| d.sessions[2].count = 5),
                 ("start 0", |d| d.sessions[0].phase = Phase::Active(0)),
-                ("start over the clock", |d| d.sessions[0].phase = Phase::Active(10)),
+                ("start over the clock", |d| put(d, 0, Phase::Active(10), &[1, 0])),
                 ("persist number 0", |d| d.sessions[2].phase = Phase::Sealed(0)),
                 ("persist number over the clock", |d| d.sessions[2].phase = Phase::Sealed(10)),
                 ("end 1", |d| d.sessions[3].phase = Phase::Published(1)),
@@ -1051,8 +1127,8 @@ mod tests {
                 ("a mark of no session", |d| d.marks[5] = 200),
                 ("a mark at N", |d| d.marks[12] = 1),
                 ("the last mark", |d| d.marks[255] = 1),
-                ("active from M up", |d| d.sessions[6].phase = Phase::Active(1)),
-                ("active, last", |d| d.sessions[15].phase = Phase::Active(1)),
+                ("active from M up", |d| put(d, 6, Phase::Active(1), &[6, 0, 1])),
+                ("active, last", |d| put(d, 15, Phase::Active(1), &[15, 0, 1])),
                 ("published from M up", |d| d.m = 3),
                 ("sealed from M up", |d| {
                     (d.sessions[3], d.sessions[6]) = (IDLE, d.sessions[3]);
@@ -1067,6 +1143,129 @@ mod tests {
         for record in 0..RECORDS {
             let change = |d: &mut Desk| d.marks[record] = if d.marks[record] == 0 { 1 } else { 0 };
             assert!(!coherent_after(change), "mark {record}");
+        }
+    }
+
+    #[test]
+    fn lists_that_are_coherent() {
+        all_give(
+            true,
+            &[
+                ("equal starts the other way round", |d| list(d, &[1, 0])),
+                ("a smaller start in front", |d| put(d, 0, Phase::Active(6), &[0, 1])),
+                ("a smaller start of a higher session in front", |d| put(d, 1, Phase::Active(6), &[1, 0])),
+                ("one more behind", |d| put(d, 5, Phase::Active(8), &[1, 0, 5])),
+                ("one more among equals", |d| put(d, 5, Phase::Active(7), &[1, 5, 0])),
+                ("nobody", |d| *d = Desk::new(1, 12, 6)),
+                ("all sixteen", |d| {
+                    *d = Desk::new(1, 12, 16);
+                    d.sessions.iter_mut().for_each(|entry| entry.phase = Phase::Active(1));
+                    list(d, &[7, 6, 5, 4, 3, 2, 1, 0, 15, 14, 13, 12, 11, 10, 9, 8]);
+                }),
+            ],
+        );
+    }
+
+    #[test]
+    fn lists_that_are_not() {
+        all_give(
+            false,
+            &[
+                ("an active session is missing", |d| list(d, &[0])),
+                ("session 0 is missing", |d| list(d, &[1])),
+                ("all are missing", |d| list(d, &[])),
+                ("one twice", |d| list(d, &[1, 1])),
+                ("session 0 twice", |d| list(d, &[0, 0])),
+                ("one twice, behind all", |d| list(d, &[0, 1, 1])),
+                ("one twice, with three active", |d| put(d, 5, Phase::Active(7), &[0, 1, 0])),
+                ("a sealed one", |d| list(d, &[0, 2])),
+                ("a sealed one, behind all", |d| list(d, &[0, 1, 2])),
+                ("a published one", |d| list(d, &[0, 3])),
+                ("an idle one", |d| list(d, &[0, 4])),
+                ("an idle one past M", |d| list(d, &[0, 15])),
+                ("no session", |d| list(d, &[0, 16])),
+                ("the largest byte", |d| list(d, &[255, 1])),
+                ("starts that fall", |d| put(d, 0, Phase::Active(8), &[0, 1])),
+                ("starts that fall to a lower session", |d| put(d, 1, Phase::Active(8), &[1, 0])),
+                ("starts that fall at the end", |d| put(d, 5, Phase::Active(6), &[0, 1, 5])),
+                ("more in use than are active", |d| d.active = 3),
+                ("fewer in use than are active", |d| d.active = 1),
+                ("more in use than there are places", |d| d.active = 17),
+            ],
+        );
+    }
+
+    #[test]
+    fn every_single_place_counts() {
+        let right = busy().desk.order;
+        for (place, session) in (0..SESSIONS).flat_map(|place| (0..=255).map(move |session| (place, session))) {
+            let same = right[place] == session;
+            assert_eq!(coherent_after(|d| d.order[place] = session), same, "place {place}: {session}");
+        }
+    }
+
+    #[test]
+    fn begin_adds_and_ends_remove() {
+        let mut store = busy();
+        assert_eq!(listed(&store.desk), [0, 1], "behind two finishes and a publish");
+        for session in [5, 4] {
+            store.begin(session).expect("begun");
+        }
+        assert_eq!(listed(&store.desk), [0, 1, 5, 4]);
+        assert_eq!([refusal(store.begin(5)), refusal(store.abandon(2)), refusal(store.finish(3))], [6; 3]);
+        assert_eq!(listed(&store.desk), [0, 1, 5, 4], "behind refusals");
+        store.abandon(1).expect("abandoned");
+        assert_eq!(listed(&store.desk), [0, 5, 4]);
+        store.finish(0).expect("empty");
+        assert_eq!(listed(&store.desk), [5, 4], "behind an empty finish");
+        store.begin(0).expect("begun");
+        store.write(5, 4, &word(5)).expect("written");
+        assert_eq!(refusal(store.write(4, 4, &word(4))), 7);
+        assert_eq!(listed(&store.desk), [5, 0], "behind a write refused with 7");
+        store.finish(5).expect("sealed");
+        assert_eq!(listed(&store.desk), [0], "behind a sealing");
+        store.publish(5).expect("published");
+        store.abandon(0).expect("abandoned");
+        store.settle(5).expect("settled");
+        store.reclaim(5).expect("answered");
+        assert_eq!(listed(&store.desk), [0u8; 0]);
+        assert!(store.desk.coherent());
+    }
+
+    #[test]
+    fn other_refusals_leave_the_list() {
+        let mut store = busy();
+        store.desk.clock = L;
+        store.image[CEILING] = L;
+        assert_eq!(refusal(store.finish(1)), 10);
+        store.desk.clock = 9;
+        for record in [1, 2] {
+            store.write(1, record, &word(1)).expect("written");
+        }
+        assert_eq!([refusal(store.write(1, 3, &word(1))), refusal(store.write(1, 12, &word(1)))], [8, 5]);
+        (store.image[slot_at(12, 0)], store.image[slot_at(12, 1)]) = (3, 4);
+        assert_eq!(refusal(store.write(0, 3, &word(0))), 9);
+        assert_eq!(listed(&store.desk), [0, 1]);
+        assert_eq!(refusal(store.open()), 11);
+        assert_eq!(listed(&store.desk), [0u8; 0], "behind an open, refused too");
+    }
+
+    #[test]
+    fn all_sixteen_begin_and_end_in_any_order() {
+        for (step, back) in [(1, 1), (3, 5), (5, 11), (7, 15), (15, 3), (9, 9)] {
+            let mut store = Store::<true>::new(length(1, 16));
+            store.lay(1, 16).and_then(|_| store.open()).expect("laid");
+            let mut wanted: Vec<u8> = (0..16).map(|i| i * step % 16).collect();
+            for &session in &wanted {
+                store.begin(session.into()).expect("begun");
+            }
+            assert_eq!(listed(&store.desk), wanted);
+            for session in (0..16).map(|i| i * back % 16) {
+                store.abandon(session.into()).expect("abandoned");
+                wanted.retain(|&other| other != session);
+                assert_eq!(listed(&store.desk), wanted);
+                assert!(store.desk.coherent());
+            }
         }
     }
 
@@ -1115,6 +1314,7 @@ mod tests {
             );
         }
         assert_eq!(refusals(|store| store.desk.marks[5] = 1), [2; 8]);
+        assert_eq!(refusals(|store| list(&mut store.desk, &[1])), [2; 8]);
         let header = [2, 2, 2, 2, 2, 2, 0, 0];
         assert_eq!(refusals(|store| store.desk.n = 13), header);
         assert_eq!(refusals(|store| store.desk.m = 7), header);
@@ -1138,23 +1338,57 @@ mod tests {
         assert_eq!(store.recover(), Err(1));
     }
 
+    /// The session that the settle of session 3, whose end is 8, waits for, with these sessions listed.
+    fn waits_for(starts: &[(u8, u64)]) -> Option<usize> {
+        let mut store = busy();
+        for session in [0, 1] {
+            store.abandon(session).expect("abandoned");
+        }
+        for &(session, start) in starts {
+            store.desk.sessions[session as usize].phase = Phase::Active(start);
+        }
+        list(&mut store.desk, &starts.iter().map(|&(session, _)| session).collect::<Vec<_>>());
+        match store.settle(3) {
+            Ok(Answer::Wait(reader)) => Some(reader),
+            Ok(Answer::Ok) => None,
+            _ => panic!("refused"),
+        }
+    }
+
     #[test]
     fn settle_names_the_oldest_reader() {
-        let named = |starts: &[(usize, u64)]| {
-            let mut store = busy();
-            for &(session, start) in starts {
-                store.desk.sessions[session].phase = Phase::Active(start);
+        assert_eq!(waits_for(&[(0, 7), (1, 7)]), Some(0), "equal starts");
+        assert_eq!(waits_for(&[(1, 6), (0, 7)]), Some(1), "a higher session with a smaller start");
+        assert_eq!(waits_for(&[(5, 5), (4, 5), (0, 7), (1, 7)]), Some(4), "equal starts behind a lower session");
+        assert_eq!(waits_for(&[(1, 7), (0, 8)]), Some(1), "a start equal to the end, and one below it");
+        assert_eq!(waits_for(&[(0, 8), (1, 8)]), None, "starts equal to the end");
+        assert_eq!(waits_for(&[(5, 7)]), Some(5), "an unused place is not session 0");
+        assert_eq!(waits_for(&[]), None, "nobody");
+    }
+
+    /// Calls a function with every list of some of these sessions that has starts 6 to 8 which do not fall.
+    fn every_list(starts: &mut Vec<(u8, u64)>, left: &[u8], call: &mut impl FnMut(&[(u8, u64)])) {
+        call(starts);
+        for &session in left {
+            let rest: Vec<u8> = left.iter().copied().filter(|&other| other != session).collect();
+            for start in starts.last().map_or(6, |&(_, start)| start)..=8 {
+                starts.push((session, start));
+                every_list(starts, &rest, call);
+                starts.pop();
             }
-            match store.settle(3) {
-                Ok(Answer::Wait(reader)) => Some(reader),
-                _ => None,
-            }
-        };
-        assert_eq!(named(&[]), Some(0), "equal starts");
-        assert_eq!(named(&[(1, 6)]), Some(1), "a higher session with a smaller start");
-        assert_eq!(named(&[(4, 5), (5, 5)]), Some(4), "equal starts behind a lower session");
-        assert_eq!(named(&[(0, 8)]), Some(1), "a start equal to the end, and one below it");
-        assert_eq!(named(&[(0, 8), (1, 8)]), None, "starts equal to the end");
+        }
+    }
+
+    #[test]
+    fn settle_answers_as_the_walk_over_all_sessions() {
+        let mut lists = 0;
+        every_list(&mut Vec::new(), &[0, 1, 4, 5], &mut |starts| {
+            let below = starts.iter().filter(|&&(_, start)| start < 8);
+            let oldest = below.min_by_key(|&&(session, start)| (start, session));
+            assert_eq!(waits_for(starts), oldest.map(|&(session, _)| session as usize), "{starts:?}");
+            lists += 1;
+        });
+        assert_eq!(lists, 1 + 4 * 3 + 12 * 6 + 24 * 10 + 24 * 15);
     }
 
     #[test]

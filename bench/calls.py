@@ -22,19 +22,27 @@ import instructions  # noqa: E402
 PLACE = "target/bench/calls"
 PROGRAM = PLACE + "/target/bin/calls"
 FEW, MANY = 2, 12  # hundreds of calls: one run is taken off the other
-SESSION = 3  # that publish takes; an input, so that the compiler does not know it
-CALLS = [  # as bench/calls numbers them, from 1 up
-    "`store::read`, home record",
-    "`store::read`, own copy",
-    "`store::write` over an own copy",
-    "`reels::read`, own copy",
-    "`reels::write` over an own copy",
-    "`listening::read`, home record",
-    "`listening::find`, no match",
-    "`listening::find`, match at record 0",
-    "`publish` of session 3",
-    "`publish_group` of session 3 alone",
-    "`publish_group` of all sixteen",
+# A title, then bench/calls' number of the call, the session and how many are active: inputs, so that the compiler does
+# not know them.
+CALLS = [
+    ("`store::read`, home record", 1, 0, 0),
+    ("`store::read`, own copy", 2, 0, 0),
+    ("`store::write` over an own copy", 3, 0, 0),
+    ("`reels::read`, own copy", 4, 0, 0),
+    ("`reels::write` over an own copy", 5, 0, 0),
+    ("`listening::read`, home record", 6, 0, 0),
+    ("`listening::find`, no match", 7, 0, 0),
+    ("`listening::find`, match at record 0", 8, 0, 0),
+    ("`publish` of session 3", 9, 3, 0),
+    ("`publish_group` of session 3 alone", 10, 3, 0),
+    ("`publish_group` of all sixteen", 11, 3, 0),
+    ("`desk::census`, nobody active", 12, 0, 0),
+    ("`desk::census`, 4 active with 4 copies each", 12, 0, 4),
+    ("`desk::census`, 16 active with 4 copies each", 12, 0, 16),
+    ("`begin` and `abandon` of session 15, 4 others active with 4 copies each", 13, 15, 4),
+    ("`settle` that waits, 1 active", 14, 15, 1),
+    ("`settle` that waits, 4 active, equal starts", 14, 15, 4),
+    ("`settle` that waits, 15 active, equal starts", 14, 15, 15),
 ]
 
 
@@ -60,15 +68,15 @@ def build():
         sys.exit(done.stdout + "bench/calls is not proved")
 
 
-def run(call, hundreds):
+def run(call, session, active, hundreds):
     """All instructions of a run, and those in memcpy; every call must have answered as it should."""
-    path = "%s/%d-%d" % (PLACE, call, hundreds)
+    path = "%s/%d-%d-%d" % (PLACE, call, active, hundreds)
     with open(path, "wb") as out:
-        out.write(bytes([call, hundreds, SESSION]))
+        out.write(bytes([call, hundreds, session, active]))
     with open(path, "rb") as data:
         made = subprocess.run([PROGRAM], stdin=data, stdout=subprocess.PIPE, check=True).stdout
     if made != b"%d" % (100 * hundreds):
-        sys.exit("call %d: %s of %d answered as they should" % (call, made.decode(), 100 * hundreds))
+        sys.exit("call %d, %d active: %s of %d answered as they should" % (call, active, made.decode(), 100 * hundreds))
     functions = instructions.Profile([PROGRAM], path, path + ".callgrind").functions()
     return sum(functions.values()), functions["memcpy"]
 
@@ -78,8 +86,8 @@ def main(words):
         sys.exit(__doc__)
     build()
     print("| A call | instructions | of these in `memcpy` |\n| --- | --- | --- |")
-    for call, title in enumerate(CALLS, 1):
-        few, many = run(call, FEW), run(call, MANY)
+    for title, *call in CALLS:
+        few, many = run(*call, FEW), run(*call, MANY)
         each = [(b - a) / (100 * (MANY - FEW)) for a, b in zip(few, many)]
         print("| %s | %s |" % (title, " | ".join("{:,.0f}".format(count) for count in each)))
 

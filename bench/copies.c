@@ -1,10 +1,10 @@
-// Counts the copies of a desk (3,352 bytes) that a program makes, by the place in it that makes them. docs/MEASUREMENTS.md says how to run it.
+// Counts the copies of a desk (3,368 bytes) that a program makes, by the place in it that makes them. docs/MEASUREMENTS.md says how to run it.
 #define _GNU_SOURCE
 #include <dlfcn.h>
 #include <stddef.h>
 #include <stdio.h>
 
-enum { DESK = 3352, PLACES = 64 };
+enum { DESK = 3368, PLACES = 64 };
 static void *place[PLACES];
 static unsigned long copies[PLACES];
 static int known;

@@ -11,8 +11,9 @@ A case depends on the seed and its own number (from 0) alone. The cases of the
 reel library (document 02, Req 02) are made by rawreels.py, those of the
 listening room's calls (Req 03) by rawlistening.py, those of a group's publish
 (Req 06) by rawgroup.py, those with one cause alone, of any call, by
-rawalone.py, those of open reels without a speed (Req 07) by rawspeeds.py, and
-those of short logs (Req 08) by rawshort.py, in the same format.
+rawalone.py, those of open reels without a speed (Req 07) by rawspeeds.py,
+those of short logs (Req 08) by rawshort.py, and those of the order in which
+sessions began (Req 09) by raworder.py, in the same format.
 
 INPUT. 64-bit words, lowest byte first, case after case up to the end of file:
     word  0       call: 0 lay, 1 begin, 2 read, 3 write, 4 finish, 5 publish,
@@ -27,15 +28,17 @@ INPUT. 64-bit words, lowest byte first, case after case up to the end of file:
                   the shelf number in word 5
     word  9       trace length in words, at most 64
     word  10      image length in words, at most 1800
-    words 11-653  the desk, 643 words (below)
+    words 11-669  the desk, 659 words (below)
     then          the image words
 Fields that the call does not take are 0. Word i of the trace before the call
 is 0xA5A5A5A500000000 + i.
 
-A DESK is 643 words: clock, N, M; 256 marks (0 none, else session + 1); 16
+A DESK is 659 words: clock, N, M; 256 marks (0 none, else session + 1); 16
 session entries of 24 words: phase (0 idle, 1 active, 2 sealed, 3 published),
 its number (0 when idle), count of copies, slot, 4 places of 5 words (record,
-four words). Marks fit 8 bits; the other fields may be any 64-bit number.
+four words); the 16 places of the order in which active sessions began, each a
+session number. Marks and places of the order fit 8 bits; the other fields may
+be any 64-bit number.
 
 PACKED. The same words. A byte 0 to 246 is that word. Byte 247 and a byte r,
 2 to 255, are r words 0. A byte 248 to 255 says that 1 to 8 bytes follow
@@ -139,16 +142,16 @@ def run(case, library=None):
 
 
 def desk_words(desk):
-    """The 643 words of a desk; zeros for none."""
+    """The 659 words of a desk; zeros for none."""
     if desk is None:
-        return [0] * 643
+        return [0] * 659
     out = [desk["clock"], desk["N"], desk["M"]]
     out += [0 if mark is None else mark + 1 for mark in desk["marks"]]
     for e in desk["sessions"]:
         out += [PHASES.index(e["phase"]), e["number"], e["count"], e["slot"]]
         for record, words in e["places"]:
             out += [record] + words
-    return out
+    return out + desk["order"]
 
 
 def case_words(case):
@@ -342,6 +345,21 @@ def wrong_image(rng, image):
 
 # ---- coherent desks ------------------------------------------------------
 
+def in_order(desk):
+    """The order that is right for the desk's active sessions: by ascending start, among equal starts in any order. That
+    depends on the desk alone, and on no random number of the case."""
+    active = [session for session, e in enumerate(desk["sessions"]) if e["phase"] == "active"]
+    starts = {session: desk["sessions"][session]["number"] for session in active}
+    random.Random(str([desk["clock"], desk["N"], starts])).shuffle(active)
+    return sorted(active, key=starts.get) + [0] * (16 - len(active))
+
+
+def listed(desk):
+    """The desk with the order that is right for it."""
+    desk["order"] = in_order(desk)
+    return desk
+
+
 def some_clock(rng, sealed, published):
     """Low, high and the edges; an end number needs a clock of 2 or more."""
     top = L + 16 - sealed
@@ -381,13 +399,13 @@ def some_desk(rng, n, m):
         desk["sessions"][session] = store.entry(phase, number, copies, rng.randrange(2) if count else 0)
         for record, _ in copies:
             desk["marks"][record] = session
-    return desk
+    return listed(desk)
 
 
 # ---- desks with a rule broken --------------------------------------------
 # Each function alters a desk and returns False where it cannot. The names of
-# the rules that are then broken stand in BREAKS. Header word 3 follows: it is
-# no lower than the clock, but where that is the rule to break.
+# the rules that are then broken stand in BREAKS. The order follows, and header
+# word 3: it is no lower than the clock, but where that is the rule to break.
 
 def pick(rng, desk, phases, least=0, most=4):
     """An entry below M in one of these phases with so many copies, or None."""
@@ -642,7 +660,7 @@ def broken_case(rng, case, name):
     desk = copy.deepcopy(case["desk"])
     if alter(rng, desk) is False:
         return None
-    case, clock = dict(case, desk=desk), desk["clock"]
+    case, clock = dict(case, desk=listed(desk)), desk["clock"]
     if case["image"] is not None:
         case = with_ceiling(case, too_low(rng, clock) if rules == ["ceiling"] else max(clock, case["image"][3]))
     return case if store.broken_rules(desk, case["image"]) == rules else None
@@ -912,7 +930,7 @@ def settles(rng, kind):
             sessions[session]["number"] = start
         way = sorted((start, session) for session, start in zip(active, starts) if start < end)
         if SETTLES[kind][1](way, end in starts):
-            return dict(session_scene(rng, "settle", desk), session=caller)
+            return dict(session_scene(rng, "settle", listed(desk)), session=caller)
 
 
 def accepted(rng, call):
@@ -1028,6 +1046,7 @@ def show(case, number):
         if desk is not None:
             marks = {r: mark for r, mark in enumerate(desk["marks"]) if mark is not None}
             print("clock %d N %d M %d marks %s" % (desk["clock"], desk["N"], desk["M"], marks))
+            print("order %s" % desk["order"])
             for session, e in enumerate(desk["sessions"]):
                 if e != store.entry("idle"):
                     print("session %d %s" % (session, e))
@@ -1053,7 +1072,7 @@ def count(cases):
 
 def main(words, make, usage, first=0):
     """The commands of raw.py, and with other cases, numbered from first on, those of rawreels.py,
-    rawlistening.py, rawgroup.py, rawalone.py, rawspeeds.py and rawshort.py."""
+    rawlistening.py, rawgroup.py, rawalone.py, rawspeeds.py, rawshort.py and raworder.py."""
     if len(words) != 3 or words[0] not in ("in", "packed", "want", "count", "show"):
         sys.exit(usage)
     seed, number = int(words[1]), int(words[2])

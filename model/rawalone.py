@@ -41,12 +41,13 @@ FOUR, REEL = [4, 5, 6, 7], [5, 1, 3, 3600]
 
 
 def sit(desk, session, phase, number=0, records=(), slot=0):
-    """Puts the session into this phase, with copies of these records, marked for it."""
+    """Puts the session into this phase, with copies of these records, marked for it. The order follows."""
     desk["marks"] = [None if mark == session else mark for mark in desk["marks"]]
     copies = [[record, [record % 99 + i for i in range(1, 5)]] for record in records]
     desk["sessions"][session] = store.entry(phase, number, copies, slot)
     for record in records:
         desk["marks"][record] = session
+    raw.listed(desk)
 
 
 def log(number, records, count=None):
@@ -376,6 +377,7 @@ def broken():
             for call in calls:
                 case = plain(call, n, m)
                 alter(case["desk"])
+                raw.listed(case["desk"])
                 if case["image"]:
                     case["image"][3] = max(case["desk"]["clock"], WORD_3)
                 yield why, 2, 0, case

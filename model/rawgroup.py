@@ -71,7 +71,7 @@ def desk_of(rng, m, named, others=tuple(KINDS), n=None, each=None, slot=None, cl
         desk["sessions"][session] = store.entry(phase, number if phase != "idle" else 0, own, at)
         for record, _ in own:
             desk["marks"][record] = session
-    return desk
+    return raw.listed(desk)
 
 
 def as_sealed(rng, desk):

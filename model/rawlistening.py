@@ -73,7 +73,7 @@ def room(rng, n, m, session, caller=("listener", 0), holders=(), each=None, edge
         desk["sessions"][other] = store.entry(phase, rng.choice(numbers(start, clock)), copies, slot)
         for record in records:
             desk["marks"][record] = other
-    return desk
+    return raw.listed(desk)
 
 
 def turned(case, call):

@@ -90,7 +90,7 @@ def finishing(copies, n=N, m=M, session=CALLER, slot=1, clock=CLOCK, trace=48, l
     for record in taken:
         desk["marks"][record] = session
     image = image_of(n, m, dict(logs), max(clock, WORD_3))
-    return dict(raw.blank("finish"), image=image, desk=desk, session=session, trace=trace)
+    return dict(raw.blank("finish"), image=image, desk=raw.listed(desk), session=session, trace=trace)
 
 
 def sealed(why, k, case):

@@ -1,4 +1,5 @@
-"""Reference model of the two-copy record store (document 01, and Req 01, Req 05, Req 06 and Req 08 of document 02).
+"""Reference model of the two-copy record store (document 01, and Req 01, Req 05, Req 06, Req 08 and Req 09 of
+document 02).
 
 An image is a list of 64-bit words, a desk is a dictionary, a trace (the document's strip) is given
 by its length in words. No call alters what it is given. Each call returns a
@@ -179,9 +180,11 @@ def entry(phase, number=0, copies=(), slot=0):
 
 
 def new_desk(clock, n, m):
-    """A desk with all sessions idle and all records unmarked."""
+    """A desk with all sessions idle and all records unmarked. The order is a
+    list of 16 places for the active sessions as they began (document 02, Req
+    09); here it is empty."""
     return {"clock": clock, "N": n, "M": m, "marks": [None] * 256,
-            "sessions": [entry("idle") for _ in range(16)]}
+            "sessions": [entry("idle") for _ in range(16)], "order": [0] * 16}
 
 
 def copies_of(session_entry):
@@ -201,9 +204,40 @@ def made_idle(desk, session):
     return with_entry(desk, session, entry("idle"), marks=marks)
 
 
+def ended(desk, session):
+    """An active session made idle; it leaves the order."""
+    return dict(made_idle(desk, session), order=removed(desk, session))
+
+
 def with_phase(desk, session, phase, number):
     """The session in another phase, with its copies, slot and marks kept."""
     return with_entry(desk, session, dict(desk["sessions"][session], phase=phase, number=number))
+
+
+# ---- the active sessions in the order they began (document 02, Req 09) ---
+
+def is_active(desk, session):
+    """There are sixteen entries; a larger number is no session."""
+    return session < 16 and desk["sessions"][session]["phase"] == "active"
+
+
+def in_use(desk):
+    """How many places of the order are in use: as many as there are active
+    sessions. A 0 in a place does not tell, since it is session 0 too."""
+    return sum(is_active(desk, session) for session in range(16))
+
+
+def added(desk, session):
+    """The order with a session that begins, at the first place not in use."""
+    used = in_use(desk)
+    return desk["order"][:used] + [session] + desk["order"][used + 1:]
+
+
+def removed(desk, session):
+    """The order without a session that is no longer active: those behind it
+    move up one place, the last place becomes 0."""
+    at = desk["order"].index(session)
+    return desk["order"][:at] + desk["order"][at + 1:] + [0]
 
 
 # ---- coherence, rule by rule ---------------------------------------------
@@ -284,10 +318,35 @@ def rule_rest(desk, image):
             and all(mark is None for mark in desk["marks"][desk["N"]:]))
 
 
+def rule_listed(desk, image):
+    """Each place of the order that is in use has an active session (document
+    02, Req 09; with the next rule the list has all of them)."""
+    return all(is_active(desk, session) for session in desk["order"][:in_use(desk)])
+
+
+def rule_listed_once(desk, image):
+    """No session stands in two places in use (Req 09)."""
+    used = desk["order"][:in_use(desk)]
+    return len(set(used)) == len(used)
+
+
+def rule_starts_rise(desk, image):
+    """Along the places in use starts don't fall (Req 09)."""
+    starts = [desk["sessions"][session]["number"] for session in desk["order"][:in_use(desk)]
+              if is_active(desk, session)]
+    return all(one <= other for one, other in zip(starts, starts[1:]))
+
+
+def rule_unused_listed(desk, image):
+    """Places of the order that are not in use are 0 (Req 09)."""
+    return not any(desk["order"][in_use(desk):])
+
+
 RULES = {"clock": rule_clock, "ceiling": rule_ceiling, "sizes": rule_sizes,
          "counts": rule_counts, "numbers": rule_numbers, "slots": rule_slots,
          "unused": rule_unused, "records": rule_records, "marks": rule_marks,
-         "rest": rule_rest}
+         "rest": rule_rest, "listed": rule_listed, "listed once": rule_listed_once,
+         "starts rise": rule_starts_rise, "unused listed": rule_unused_listed}
 
 
 def broken_rules(desk, image=None):
@@ -356,20 +415,23 @@ def open_turned_away(image, trace):
 # ---- calls on the desk alone ---------------------------------------------
 
 def begin(desk, session):
-    """Idle becomes active; start is the clock."""
+    """Idle becomes active; start is the clock. The session is last in the
+    order."""
     refusal = turned_away(desk, session, phase="idle")
     if refusal:
         return result(refusal, desk)
     start = desk["clock"]
-    return result(said("start", start), with_entry(desk, session, entry("active", start)))
+    return result(said("start", start), with_entry(desk, session, entry("active", start),
+                                                   order=added(desk, session)))
 
 
 def abandon(desk, session):
-    """Active only; marks and copies are dropped, the session is idle."""
+    """Active only; marks and copies are dropped, the session is idle and no
+    longer in the order."""
     refusal = turned_away(desk, session, phase="active")
     if refusal:
         return result(refusal, desk)
-    return result(said("ok"), made_idle(desk, session))
+    return result(said("ok"), ended(desk, session))
 
 
 # ---- read and write ------------------------------------------------------
@@ -410,7 +472,7 @@ def write(image, desk, session, record, words):
         return result(said("ok"), overwritten(desk, session, place, words), image)
     holder = desk["marks"][record]
     if holder is not None:  # another session holds the record
-        return result(no(7, holder), made_idle(desk, session), image)
+        return result(no(7, holder), ended(desk, session), image)
     if own["count"] == 4:  # fifth record in one transaction
         return result(no(8), desk, image)
     slot = own["slot"] if own["count"] else lowest_empty(image, session)
@@ -445,21 +507,21 @@ def copied(desk, session, record, words, slot):
 # ---- finish, publish, settle, reclaim ------------------------------------
 
 def finish(image, desk, trace, session):
-    """Active only. Without copies: idle, "empty". With copies: sealed; the
-    persist number is the clock."""
+    """Active only; the session leaves the order. Without copies: idle,
+    "empty". With copies: sealed; the persist number is the clock."""
     refusal = turned_away(desk, session, image, trace, phase="active")
     if refusal:
         return result(refusal, desk, image)
     own = desk["sessions"][session]
     if own["count"] == 0:
-        return result(said("empty"), made_idle(desk, session), image)
+        return result(said("empty"), ended(desk, session), image)
     number = desk["clock"]
     if number >= L:  # finish with copies, clock at L or more
         return result(no(10), desk, image)
     at = slot_at(desk["N"], 2 * session + own["slot"])
     entries = log_body(at, image, copies_of(own)) + [FENCE, (at, number), FENCE]
-    return result(said("sealed", number), with_phase(desk, session, "sealed", number),
-                  image, entries)
+    desk = dict(with_phase(desk, session, "sealed", number), order=removed(desk, session))
+    return result(said("sealed", number), desk, image, entries)
 
 
 def log_body(at, image, copies):

@@ -18,6 +18,7 @@ import raw  # noqa: E402
 import rawalone  # noqa: E402
 import rawgroup  # noqa: E402
 import rawlistening  # noqa: E402
+import raworder  # noqa: E402
 import rawreels  # noqa: E402
 import rawshort  # noqa: E402
 import rawspeeds  # noqa: E402
@@ -30,8 +31,9 @@ SEEDS.update({"long": 6, "ceiling": 4, "openings": 6, "cuts_publish": 6})
 RAW_SEED = 1
 # What makes the raw cases, each from this number on; of all but the first it is one round.
 RAW_MAKERS = [(0, raw), (rawreels.FIRST, rawreels), (rawlistening.FIRST, rawlistening), (rawgroup.FIRST, rawgroup),
-              (rawalone.FIRST, rawalone), (rawspeeds.FIRST, rawspeeds), (rawshort.FIRST, rawshort)]
-RAW_CASES = rawshort.FIRST + len(rawshort.TURNS)
+              (rawalone.FIRST, rawalone), (rawspeeds.FIRST, rawspeeds), (rawshort.FIRST, rawshort),
+              (raworder.FIRST, raworder)]
+RAW_CASES = raworder.FIRST + len(raworder.TURNS)
 
 
 def schedule(kind_and_seed):

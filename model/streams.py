@@ -571,14 +571,107 @@ def equal_words(rng):
     return maker.bytes
 
 
+# ---- the order in which sessions began (document 02, Req 09) --------------
+
+ORDER_M = [16, 1, 2, 3, 4, 5, 6, 8, 10, 12, 13, 14, 15, 16]  # the number of sessions, by way
+
+
+def order(rng, way=None):
+    """Up to all sessions active at once, with equal starts and with different ones; they end in every order and in
+    every way, with settles in between. At times the desk is lost."""
+    way = rng.randrange(len(ORDER_M)) if way is None else way
+    maker = Maker(rng, rng.choice([8, 20, 256]), ORDER_M[way])
+    while maker.walk.steps < 450:
+        arrive(maker, rng)
+        maker.go(rng.choice([0, 0, 0, 8]))
+        leave(maker, rng)
+        for place in sorted(store.occupied(maker.walk.image), key=lambda p: store.persist(maker.walk.image, p)):
+            maker.do(RECLAIM, place // 2)
+    return maker.bytes
+
+
+def those(maker, phase):
+    """The sessions in this phase; active ones in the order in which they began."""
+    desk = maker.walk.desk
+    if phase == "active":
+        return desk["order"][:store.in_use(desk)]
+    return [session for session in range(maker.m) if maker.phase(session) == phase]
+
+
+def arrive(maker, rng):
+    """All idle sessions begin, or some: the lowest first, the highest first or in any order. With each publish in
+    between the next starts are higher."""
+    idle, share = those(maker, "idle"), rng.choice([0, 0.1, 0.4])
+    idle = rng.choice([idle, idle[::-1], rng.sample(idle, len(idle))])
+    for session in idle[:rng.choice([len(idle), len(idle), rng.randrange(1, len(idle) + 1)])] if idle else []:
+        maker.do(BEGIN, session)
+        if rng.random() < share:
+            sealed(maker, rng, rng.choice(those(maker, "active")))
+
+
+def sealed(maker, rng, session):
+    """An active session writes what nobody holds and ends; at times it is published later."""
+    free = [record for record in range(maker.n) if maker.walk.desk["marks"][record] is None]
+    if free:
+        maker.do(*maker.body(WRITE, session, rng.choice(free)))
+    maker.do(FINISH, session)
+    if maker.phase(session) == "sealed" and rng.random() < 0.8:
+        maker.do(PUBLISH, session)
+
+
+def turned_away(maker, rng, session):
+    """An active session writes what another holds; where nobody holds a record it is abandoned."""
+    held = [record for record, mark in enumerate(maker.walk.desk["marks"]) if mark not in (None, session)]
+    maker.do(*(maker.body(WRITE, session, rng.choice(held)) if held else [ABANDON, session]))
+
+
+WHO = {"first": lambda rng, active: active[0], "last": lambda rng, active: active[-1],
+       "lowest": lambda rng, active: min(active), "highest": lambda rng, active: max(active),
+       "any": lambda rng, active: rng.choice(active)}
+
+
+def leave(maker, rng):
+    """The active sessions end one by one, each in some way; in between settles, and one that begins at times."""
+    who = rng.choice(list(WHO.values()))
+    while those(maker, "active"):
+        session = (who if rng.random() < 0.8 else WHO["any"])(rng, those(maker, "active"))
+        way = rng.randrange(5)
+        if way < 2:
+            maker.do([FINISH, ABANDON][way], session)
+        else:
+            (sealed if way == 2 else turned_away)(maker, rng, session)
+        settle_some(maker, rng)
+        if those(maker, "idle") and rng.random() < 0.25:
+            maker.do(BEGIN, rng.choice(those(maker, "idle")))
+        if rng.random() < 0.04:
+            lose(maker, rng)
+    settle_some(maker, rng, 16)
+
+
+def lose(maker, rng):
+    """A session that is not idle ends, is published or settled, and the desk is lost at it."""
+    session = rng.choice([session for session in range(maker.m) if maker.phase(session) != "idle"] or [0])
+    maker.do(CUT, rng.choice([0, 1, 2, 255, rng.randrange(12)]))
+    maker.do({"active": FINISH, "sealed": PUBLISH, "published": SETTLE}.get(maker.phase(session), RECLAIM), session)
+
+
+def settle_some(maker, rng, most=2):
+    """So many sealed sessions are published, and so many published ones settled: they wait or not."""
+    for phase, kind in (("sealed", PUBLISH), ("published", SETTLE)):
+        found = those(maker, phase)
+        for session in rng.sample(found, min(most, len(found))):
+            if most > 2 or rng.random() < 0.5:
+                maker.do(kind, session)
+
+
 KINDS = {f.__name__: f for f in (
     mix, hot, cold, small, large, long, stray, restless, cuts_finish, cuts_settle,
     cuts_reclaim, cuts_publish, cuts_idle, every_answer, readers, openings, ceiling, sizes_refused,
-    damaged, noise, edits, cuts_edits, equal_words)}
+    damaged, noise, edits, cuts_edits, equal_words, order)}
 
 
 def stream(kind, seed):
-    """The bytes of one stream; the endings, the ways of ceiling and those of cuts_edits go round by seed."""
+    """The bytes of one stream; the endings and the ways of ceiling, cuts_edits and order go round by seed."""
     rng = random.Random("%s/%d" % (kind, seed))
     if kind == "damaged":
         return bytes(damaged(rng, seed % ENDINGS))
@@ -586,6 +679,8 @@ def stream(kind, seed):
         return bytes(ceiling(rng, seed % CEILING_WAYS))
     if kind == "cuts_edits":
         return bytes(cuts_edits(rng, seed % EDIT_WAYS))
+    if kind == "order":
+        return bytes(order(rng, seed % len(ORDER_M)))
     return bytes(KINDS[kind](rng))
 
 

@@ -19,6 +19,7 @@ import raw
 import rawalone
 import rawgroup
 import rawlistening
+import raworder
 import rawreels
 import rawshort
 import rawspeeds
@@ -129,7 +130,7 @@ def entries_of_finish(copies, differ):
 
 
 class Foresight:
-    """Phases, copies, home records, occupied slots, clock and ceiling, kept from the calls alone."""
+    """Phases, copies, home records, occupied slots, clock, ceiling and who began when, kept from the calls alone."""
 
     NEED = {"begin": "idle", "read": "active", "write": "active", "abandon": "active",
             "finish": "active", "publish": "sealed", "settle": "published"}
@@ -139,6 +140,7 @@ class Foresight:
         self.homes = [list(words) for words in homes]
         self.ceiling = self.clock + 1024
         self.phase, self.at = ["idle"] * m, [0] * m  # at: start, persist or end
+        self.order = []                              # active sessions as they began
         self.mine = [{} for _ in range(m)]           # records copied, with their words
         self.slot = [None] * m
         self.logs = {}                               # place: persist number
@@ -165,8 +167,13 @@ class Foresight:
     def drop(self, session):
         self.phase[session], self.mine[session], self.slot[session] = "idle", {}, None
 
+    def listed(self):
+        """The sixteen places of the order."""
+        return (self.order + [0] * 16)[:16]
+
     def begin(self, session, record):
         self.phase[session], self.at[session] = "active", self.clock
+        self.order.append(session)
         return ("start", self.clock, 0)
 
     def read(self, session, record):
@@ -183,6 +190,7 @@ class Foresight:
             return ("ok", 0, 0)
         if self.holder(record):
             self.drop(session)
+            self.order.remove(session)
             return (7, self.holder(record)[0], 0)
         if len(self.mine[session]) == 4:
             return (8, 0, 0)
@@ -196,15 +204,18 @@ class Foresight:
 
     def abandon(self, session, record):
         self.drop(session)
+        self.order.remove(session)
         return ("ok", 0, 0)
 
     def finish(self, session, record):
         copies = len(self.mine[session])
         if copies == 0:
             self.drop(session)
+            self.order.remove(session)
             return ("empty", 0, 0)
         if self.clock >= L:
             return (10, 0, 0)
+        self.order.remove(session)
         self.phase[session], self.at[session] = "sealed", self.clock
         self.logs[2 * session + self.slot[session]] = self.clock
         return ("sealed", self.clock, entries_of_finish(copies, self.differ(session)))
@@ -399,6 +410,14 @@ def held_desk(st, reader_start, end):
     desk["sessions"][0] = st.entry("active", reader_start)
     desk["sessions"][1] = st.entry("published", end, [[0, [1, 2, 3, 4]]])
     desk["marks"][0] = 1
+    return queued(desk)
+
+
+def queued(desk, highest_first=False):
+    """The desk with its active sessions listed by start, among equal starts by session."""
+    active = [session for session in range(16) if desk["sessions"][session]["phase"] == "active"]
+    active.sort(key=lambda session: (desk["sessions"][session]["number"], -session if highest_first else session))
+    desk["order"] = active + [0] * (16 - len(active))
     return desk
 
 
@@ -478,7 +497,7 @@ def settle_edge(st, caller, active, wanted, sealed=(), published=()):
         desk["sessions"][session] = st.entry(phase, number, copies)
         for record, _ in copies:
             desk["marks"][record] = session
-    done = st.settle(image, desk, 48, caller)
+    done = st.settle(image, queued(desk, caller % 2), 48, caller)
     same(answer_of(done), wanted, "settle by %d, active %s" % (caller, active))
     if wanted[0] == "wait":
         same((done["desk"], done["image"], done["entries"]), (desk, image, []), "wait leaves all")
@@ -620,6 +639,7 @@ def check_shape(st, trial, step, done):
         same(entries[-1], FENCE, "last entry")
     if done["answer"]["number"] not in (0, 7):
         same(done["desk"], trial.desk, "desk after a refusal")
+    same(done["desk"]["order"], trial.foresight.listed(), "order after %s" % step[0])
     same(st.broken_rules(done["desk"], done["image"]), [], "rules broken after %s" % step[0])
 
 
@@ -852,7 +872,7 @@ def ceiling_calls(st, clock):
     for session, (phase, number) in enumerate(numbers):
         desk["sessions"][session] = st.entry(phase, number, [[session, [1, 2, 3, 4]]][:session])
         desk["marks"][session] = session if session else None
-    image = laid(st, 4, 4)
+    image, desk = laid(st, 4, 4), queued(desk)
     yield image, st.read, (desk, 0, 0), "home"
     yield image, st.write, (desk, 0, 0, [5] * 4), "ok"
     yield image, st.finish, (desk, 48, 0), "empty"
@@ -1057,7 +1077,7 @@ def mixed(st, phases, clock=9, word_3=2 ** 63):
             desk["sessions"][session] = st.entry(name, number, copies, session % 2 if copies else 0)
         for record, _ in copies:
             desk["marks"][record] = session
-    return laid(st, 32, len(phases), word_3), desk
+    return laid(st, 32, len(phases), word_3), queued(desk)
 
 
 PHASES = ["sealed", "idle", "reader", "writer", "published", "sealed"]
@@ -1338,7 +1358,7 @@ def writer(st, n, copies, clock=5, m=2):
     desk["sessions"][1] = st.entry("active", 1, copies, 1)
     for record, _ in copies:
         desk["marks"][record] = 1
-    return desk
+    return queued(desk)
 
 
 def numbered(st, n, m=2):
@@ -1547,21 +1567,263 @@ def cleaned(st, image):
     raise AssertionError("recovery without end")
 
 
+# ---- the order in which sessions began (document 02, Req 09) ----------------
+
+def waiting(st, queue, order=None, seats=(), clock=9, m=16):
+    """A desk with these active sessions, by session and start, as they began, with this order if it is another; the
+    seats are session, phase and number of others, each with a copy of the record of its number."""
+    desk = st.new_desk(clock, 32, m)
+    for session, start in queue:
+        desk["sessions"][session] = st.entry("active", start)
+    for session, phase, number in seats:
+        desk["sessions"][session] = st.entry(phase, number, [[session, [session, 2, 3, 4]]], session % 2)
+        desk["marks"][session] = session
+    order = [session for session, _ in queue] if order is None else list(order)
+    return dict(desk, order=order + [0] * (16 - len(order)))
+
+
+def order_right(desk):
+    """Whether the order is right, found in another way: its front has just the active sessions, sorted by start."""
+    starts = {session: e["number"] for session, e in enumerate(desk["sessions"]) if e["phase"] == "active"}
+    front, rest = desk["order"][:len(starts)], desk["order"][len(starts):]
+    return set(rest) <= {0} and sorted(front) == sorted(starts) and front == sorted(front, key=starts.get)
+
+
+# Active sessions and their starts, orders of them, and the rules that are broken.
+ORDERS = [
+    ([(4, 2), (0, 3), (9, 3)], [([4, 0, 9], []), ([4, 9, 0], []), ([0, 4, 9], ["starts rise"]), ([4, 0, 7], ["listed"]),
+                                ([4, 16, 9], ["listed"]), ([255, 0, 9], ["listed"]), ([4, 0, 9 + 16], ["listed"]),
+                                ([4, 9], []), ([4, 9, 9], ["listed once"]), ([4, 4, 9], ["listed once"]),
+                                ([9, 0, 4], ["starts rise"]), ([4, 0, 9, 4], ["unused listed"]),
+                                ([4, 0, 9] + [0] * 12 + [1], ["unused listed"]), ([4, 0, 9, 0, 16], ["unused listed"]),
+                                ([4], ["listed once"]), ([4, 0], ["listed once"]), ([4, 0, 11], ["listed"])]),
+    ([(4, 2), (9, 3)], [([4, 9], []), ([9, 4], ["starts rise"]), ([4], ["listed"]), ([4, 0], ["listed"]),
+                        ([0, 9], ["listed"]), ([9, 9], ["listed once"]), ([4, 0, 9], ["listed", "unused listed"]),
+                        ([4, 9, 0, 9], ["unused listed"])]),
+    ([(0, 5)], [([], []), ([0], []), ([1], ["listed"]), ([0, 1], ["unused listed"])]),
+    ([(3, 5)], [([], ["listed"]), ([3], []), ([0, 3], ["listed", "unused listed"]), ([3, 3], ["unused listed"])]),
+    ([(0, 5), (3, 5)], [([], ["listed once"]), ([3], []), ([0, 3], []), ([3, 0], []), ([3, 3], ["listed once"])]),
+    ([], [([], []), ([1], ["unused listed"]), ([0] * 15 + [255], ["unused listed"]), ([0, 0, 16], ["unused listed"])]),
+    ([(s, 4) for s in range(16)], [(range(16), []), (range(15, -1, -1), []), ([*range(8, 16), *range(8)], []),
+                                   ([], ["listed once"]), ([*range(15), 16], ["listed"]),
+                                   ([*range(15), 0], ["listed once"])]),
+    ([(s, s // 4 + 1) for s in range(16)], [(range(16), []), ([3, 2, 1, 0, *range(4, 16)], []),
+                                            ([*range(14), 15, 14], []),
+                                            ([*range(11), 12, 11, 13, 14, 15], ["starts rise"]),
+                                            ([12, *range(1, 12), 0, 13, 14, 15], ["starts rise"])]),
+    ([(s, 4) for s in range(1, 16)], [(range(1, 16), []), ([*range(1, 16), 1], ["unused listed"]),
+                                      ([0, *range(1, 15)], ["listed"])]),
+]
+
+
+def order_rules(st):
+    """Each part of the rule by itself, in begin, abandon and settle; and orders that are drawn, right or not."""
+    seats = [(11, "sealed", 4), (12, "published", 2)]
+    for queue, orders in ORDERS:
+        others = [seat for seat in seats if seat[0] not in dict(queue)]
+        for order, broken in orders:
+            desk = waiting(st, queue, order, others)
+            what = "order %s of %s" % (list(order), queue)
+            same(st.broken_rules(desk), broken, what)
+            same((order_right(desk), st.coherent(desk, laid(st, 32, 16))), (not broken,) * 2, what)
+            for done in (st.begin(desk, 7), st.abandon(desk, 4), st.settle(laid(st, 32, 16), desk, 48, 12)):
+                same(answer_of(done)[0] == 2, bool(broken), what)
+                if broken:
+                    same(done["desk"], desk, what + " left")
+    seen = Counter()
+    for run in range(int(3000 * SHARE)):
+        desk = drawn_order(st, random.Random("orders/%d" % run))
+        same(st.coherent(desk), order_right(desk), "order %s" % desk["order"])
+        seen[order_right(desk)] += 1
+    return "drawn orders: %d right, %d not" % (seen[True], seen[False])
+
+
+def drawn_order(st, rng):
+    """A desk with drawn starts, and an order that is right or altered a little."""
+    sessions = rng.sample(range(16), rng.choice([0, 1, 2, 3, 5, 15, 16]))
+    queue = list(zip(sessions, sorted(rng.choice([1, 2, 2, 3, 9]) for _ in sessions)))
+    order = waiting(st, queue)["order"]
+    for _ in range(rng.randrange(3)):
+        one, other = rng.randrange(16), rng.randrange(min(16, len(queue) + 1))
+        if rng.random() < 0.5:
+            order[one], order[other] = order[other], order[one]
+        else:
+            order[other] = rng.choice([0, order[one], rng.randrange(16), 16 + order[other]])
+    return waiting(st, queue, order)
+
+
+def order_calls(st):
+    """What each call leaves: begin adds at the end; whatever ends a session takes it out; all else keeps the order."""
+    image = laid(st, 32, 16)
+    for queue in ([], [(0, 2)], [(3, 2)], [(4, 2), (0, 3), (9, 3)], [(0, 9), (15, 9)],
+                  [(15, 1), (2, 1), (1, 1), (0, 1)], [(s, 5) for s in range(1, 16)],
+                  [(s, 5) for s in range(14, -1, -1)],
+                  [(7, 1), (0, 1), (8, 2), (15, 2), (3, 4), (4, 5), (12, 5), (5, 5), (6, 8)]):
+        listed, what = [session for session, _ in queue], "order of %s" % queue
+        desk = waiting(st, queue)
+        for session in [session for session in range(16) if session not in listed]:
+            done = st.begin(desk, session)
+            same(answer_of(done), ("start", 9), what)
+            same(done["desk"], waiting(st, queue + [(session, 9)]), what + ", %d begins" % session)
+        for session in listed:
+            gone = waiting(st, [one for one in queue if one[0] != session])
+            for done, answer in ((st.abandon(desk, session), ("ok", 0)),
+                                 (st.finish(image, desk, 48, session), ("empty", 0))):
+                same((answer_of(done), done["desk"]), (answer, gone), what + " without %d" % session)
+            wrote = st.write(image, desk, session, 20, [1, 2, 3, 4])["desk"]
+            same(wrote["order"], desk["order"], what + ", %d writes" % session)
+            same(st.read(image, wrote, session, 20)["desk"], wrote, what + ", %d reads" % session)
+            same(st.abandon(wrote, session)["desk"], gone, what + ", %d writes and is abandoned" % session)
+            followed(st, image, wrote, session, gone["order"])
+            for other in listed[:2]:
+                done = st.write(image, st.write(image, desk, other, 20, [5] * 4)["desk"], session, 20, [6] * 4)
+                same(done["desk"]["order"], desk["order"] if session == other else gone["order"], what + ", 7")
+                same(answer_of(done), ("ok", 0) if session == other else (7, other), what + ", 7")
+
+
+def followed(st, image, desk, session, order):
+    """A session with a copy is sealed, and so leaves this order; it is published and settled, its log reclaimed."""
+    done = st.finish(image, desk, 48, session)
+    same((answer_of(done), done["desk"]["order"]), (("sealed", 9), order), "sealed")
+    for call in (st.publish, st.publish_group):
+        member = session if call is st.publish else 2 ** session
+        after = call(done["image"], done["desk"], 48, member)
+        same((answer_of(after), after["desk"]["order"]), (("end", 10), order), "published")
+    settled = st.settle(after["image"], after["desk"], 48, session)
+    same((answer_of(settled)[0], settled["desk"]["order"]), ("wait" if any(
+        e["phase"] == "active" for e in after["desk"]["sessions"]) else "ok", order), "settled")
+    reclaimed = st.reclaim(settled["image"], settled["desk"], 48, session)
+    same(reclaimed["desk"], settled["desk"], "reclaimed")
+
+
+def order_refusals(st):
+    """Refusals other than 7 leave the order: 4, 5, 6, 8, 9, 10 and those of each length of the trace."""
+    image = laid(st, 32, 16)
+    desk = waiting(st, [(4, 2), (0, 3), (9, 3)], None, [(11, "sealed", 4), (12, "published", 2)])
+    four = desk
+    for record in (20, 21, 22, 23):
+        four = st.write(image, four, 0, record, [1] * 4)["desk"]
+    full = slot_put(st, slot_put(st, image, 0, 1, [0]), 1, 1, [1])
+    late = dict(four, clock=L)
+    for done, given, number in (
+            (st.begin(desk, 4), desk, 6), (st.begin(desk, 11), desk, 6), (st.begin(desk, 16), desk, 4),
+            (st.abandon(desk, 12), desk, 6), (st.abandon(desk, 5), desk, 6), (st.abandon(desk, 16), desk, 4),
+            (st.finish(image, desk, 47, 0), desk, 3), (st.finish(image, desk, 48, 11), desk, 6),
+            (st.finish(image, late, 48, 0), late, 10),
+            (st.write(image, four, 0, 24, [1] * 4), four, 8), (st.write(full, desk, 0, 24, [1] * 4), desk, 9),
+            (st.write(image, desk, 0, 32, [1] * 4), desk, 5), (st.write(image, desk, 11, 24, [1] * 4), desk, 6),
+            (st.read(image, desk, 12, 24), desk, 6), (st.publish(image, desk, 48, 0), desk, 6),
+            (st.publish_group(image, desk, 48, 2 ** 11 + 1), desk, 6), (st.settle(image, desk, 48, 0), desk, 6)):
+        same((answer_of(done), done["desk"]), ((number, 0), given), "refused with %d" % number)
+    for done in (st.open_image(laid(st, 32, 16, 0), 48), st.open_image(image[:-1], 48), st.open_image(full, 48)):
+        same(done["desk"]["order"], [0] * 16, "open, %s" % answer_of(done)[0])
+
+
+def front_run(desk, end):
+    """Settle's answer from the front of the order alone: the lowest session of the first run of equal starts, if they
+    are below the end. The run ends with the number of active sessions, whatever stands behind it."""
+    used = sum(e["phase"] == "active" for e in desk["sessions"])
+    if used == 0 or desk["sessions"][desk["order"][0]]["number"] >= end:
+        return "ok", 0
+    first, named = desk["sessions"][desk["order"][0]]["number"], desk["order"][0]
+    for session in desk["order"][1:used]:
+        if desk["sessions"][session]["number"] != first:
+            break
+        named = min(named, session)
+    return "wait", named
+
+
+def order_fronts(st):
+    """The law of the request: the front run gives the answer of the full walk. Four sessions in every phase, with all
+    starts from 1 to 4, all orders that are right; and up to fifteen active ones, drawn."""
+    image, seen = laid(st, 32, 16), Counter()
+    for caller, others in ((caller, [s for s in range(4) if s != caller]) for caller in range(4)):
+        for how in itertools.product([None, "sealed", "published", 1, 2, 3, 4], repeat=3):
+            seats = [(s, phase, 2) for s, phase in zip(others, how) if isinstance(phase, str)]
+            active = [(s, start) for s, start in zip(others, how) if isinstance(start, int)]
+            for queue in itertools.permutations(active):
+                if [start for _, start in queue] == sorted(start for _, start in queue):
+                    front_holds(st, image, queue, seats + [(caller, "published", 3)], caller, 3, seen)
+    for run in range(int(500 * SHARE)):
+        rng = random.Random("fronts/%d" % run)
+        caller, *others = rng.sample(range(16), rng.choice([1, 3, 8, 16, 16]))
+        seats = [(s, rng.choice(["sealed", "published"]), rng.randrange(2, 10)) for s in others if rng.random() < 0.2]
+        others = [s for s in others if s not in [seat[0] for seat in seats]]
+        pool = [rng.randrange(1, 10) for _ in range(rng.choice([1, 2, 3]))]
+        queue, end = list(zip(others, sorted(rng.choice(pool) for _ in others))), rng.randrange(2, 10)
+        front_holds(st, image, queue, seats + [(caller, "published", end)], caller, end, seen)
+    wanted = ["ok", "wait", "wait, not for the first", "wait for session 0"]
+    same([name for name in wanted if seen[name] < 50 * SHARE], [], "too few of")
+    return ", ".join("%s %d" % part for part in sorted(seen.items()))
+
+
+def front_holds(st, image, queue, seats, caller, end, seen):
+    """One settle: as found by the front run, and by a walk over all."""
+    desk = waiting(st, queue, None, seats)
+    done, wanted = st.settle(image, desk, 48, caller), front_run(desk, end)
+    walk = [(start, session) for session, start in queue if start < end]
+    same(wanted, ("wait", min(walk)[1]) if walk else ("ok", 0), "the front run of %s" % list(queue))
+    same(answer_of(done), wanted, "settle with %s, end %d" % (list(queue), end))
+    same(done["desk"]["order"], desk["order"], "order after settle")
+    seen[wanted[0]] += 1
+    if wanted[0] == "wait":
+        seen["wait, not for the first"] += wanted[1] != queue[0][0]
+        seen["wait for session 0"] += wanted[1] == 0
+
+
+class OrderTrial(Trial):
+    """A trial with many sessions that begin and end soon."""
+
+    def __init__(self, st, rng):
+        m = rng.choice([1, 2, 4, 15, 16, 16])
+        super().__init__(st, rng, rng.choice([2, 8, 40]), m)
+        self.groups, self.lazy = 0.1, 0.3
+
+    def choose_one(self):
+        call, session, record, words = super().choose_one()
+        busy = sum(phase == "active" for phase in self.foresight.phase) > self.rng.randrange(self.m + 1)
+        if call in ("read", "write") and self.rng.random() < (0.6 if busy else 0.3):
+            call = self.rng.choice(["abandon", "finish", "write"])
+        return call, session, record, words
+
+
+def order_runs(st):
+    """The order after each call of random schedules is the one that is kept from the calls alone; so is each answer."""
+    seen = Counter()
+    for run in range(int(60 * SHARE)):
+        trial = OrderTrial(st, random.Random("order/%d" % run))
+        for _ in range(150):
+            step, before = trial.choose(), trial.foresight.listed()
+            done, used = trial.made(*step), len(trial.foresight.order)
+            wanted = trial.foresight.step(*step)
+            same((*answer_of(done), len(done["entries"])), wanted, "%s in run %d" % (step[0], run))
+            check_shape(st, trial, step, done)
+            if len(trial.foresight.order) < used:
+                at = before.index(step[1])
+                seen["%s, %s" % (wanted[0], "first" if at == 0 else "last" if at == used - 1 else "in between")] += 1
+            seen["most active"] = max(seen["most active"], used)
+            trial.take(step, done)
+    wanted = itertools.product(("ok", "empty", "sealed", 7), ("first", "last", "in between"))
+    same([goes for goes in wanted if seen["%s, %s" % goes] < 8 * SHARE], [], "too few of")
+    same(seen["most active"] > 10, True, "many active at once")
+    return ", ".join("%s %d" % part for part in sorted(seen.items()))
+
+
 # ---- raw cases -----------------------------------------------------------
 
 def case_read(words):
     """A case read back from its input words, and the words left over."""
-    call, desk, at = raw.CALLS[words[0]], words[11:654], 654 + words[10]
+    call, desk, at = raw.CALLS[words[0]], words[11:670], 670 + words[10]
     like = raw.like(call)
     entries = [desk[259 + 24 * s:283 + 24 * s] for s in range(16)]
     sessions = [{"phase": raw.PHASES[e[0]], "number": e[1], "count": e[2], "slot": e[3],
                  "places": [[e[i], e[i + 1:i + 5]] for i in range(4, 24, 5)]} for e in entries]
     case = {"call": call, "N": words[1], "M": words[2], "session": words[3], "record": words[4],
             "words": words[5:9], "trace": words[9],
-            "image": words[654:at] if like in raw.WITH_IMAGE else None,
+            "image": words[670:at] if like in raw.WITH_IMAGE else None,
             "desk": {"clock": desk[0], "N": desk[1], "M": desk[2],
                      "marks": [mark - 1 if mark else None for mark in desk[3:259]],
-                     "sessions": sessions} if like in raw.WITH_DESK else None}
+                     "sessions": sessions, "order": desk[643:]} if like in raw.WITH_DESK else None}
     return case, words[at:]
 
 
@@ -1584,7 +1846,7 @@ def check_format(case, what):
     words = raw.case_words(case)
     same(case_read(words), (case, []), what + " read back")
     same(unpacked(raw.packed(words)), words, what + " unpacked")
-    if max(words) > TOP or max(words[14:270]) > 255 \
+    if max(words) > TOP or max(words[14:270] + words[654:670]) > 255 \
             or len(case["image"] or []) > 1800 or case["trace"] > 64:
         raise AssertionError(what + " out of the stated bounds")
 
@@ -1917,7 +2179,7 @@ def reel_scene(own=ZEROS, copy=ZEROS, home=ZEROS):
     desk["marks"][:2] = [0, 1]
     image = laid(store, 5, 2)
     image[12:16] = home
-    return image, desk
+    return image, queued(desk)
 
 
 REEL_PLACES = {"own": 0, "copy": 1, "home": 2}  # which record of the scene is where
@@ -1980,7 +2242,7 @@ def write_scenes():
     four = store.new_desk(1, 5, 2)
     four["sessions"][0] = store.entry("active", 1, [[record, ZEROS] for record in range(4)])
     four["marks"][:4] = [0] * 4
-    yield (image, four, 0, 4), (8, 0)
+    yield (image, queued(four), 0, 4), (8, 0)
     yield (slot_put(store, slot_put(store, image, 2, 1, [0]), 3, 2, [0]), fresh, 1, 4), (9, 0)
 
 
@@ -2113,7 +2375,7 @@ def room(own=(), clock=9):
         desk["sessions"][session] = store.entry(phase, number, copies)
         for record in records:
             desk["marks"][record] = session
-    return image, desk
+    return image, queued(desk)
 
 
 def listened(lib, call, image, desk, session=3, record=0, number=10, trace=48):
@@ -2175,7 +2437,8 @@ def listening_refusals(lib):
         for call, answer in zip(raw.LISTENING_CALLS[1:], wanted):
             done = listened(lib, call, **scene)
             same(answer_of(done), (answer, 0), "%s with %s" % (call, list(changes)))
-            left(done, image, store.made_idle(desk, 3) if answer == "empty" else desk, call)
+            gone = dict(store.made_idle(desk, 3), order=[7] + [0] * 15)  # session 7 is active, too
+            left(done, image, gone if answer == "empty" else desk, call)
         for number in (0, 1000000, 2 ** 32, 2 ** 32 + 10, 2 ** 63, TOP):
             done = listened(lib, "find", **dict(scene, number=number))
             same(told(done), (15, 0, ZEROS), "find %d with %s" % (number, list(changes)))
@@ -2188,7 +2451,8 @@ def listening_begins(lib):
         image, desk = room(clock=clock)
         done = listened(lib, "begin listening", image, desk, 5)
         same(told(done), ("start", clock, ZEROS), "begin")
-        left(done, image, store.with_entry(desk, 5, store.entry("active", clock)), "begin")
+        begun = store.with_entry(desk, 5, store.entry("active", clock), order=[7, 3, 5] + [0] * 13)
+        left(done, image, begun, "begin")
     for desk, session, number in (
             (dict(desk, clock=0), 8, 2), (desk, 8, 4), (desk, TOP, 4), (desk, 2 ** 32 + 5, 4),
             (desk, 0, 6), (desk, 1, 6), (desk, 3, 6), (room([6])[1], 3, 6)):
@@ -2391,7 +2655,7 @@ def stored_cases():
         words = unpacked(file.read())
     cases, at = [], 0
     while at < len(words):
-        size = 654 + words[at + 10]
+        size = 670 + words[at + 10]
         cases.append(case_read(words[at:at + size])[0])
         at += size
     return [(case, raw.run(case)) for case in cases]
@@ -2679,7 +2943,6 @@ def short_aims(st):
         before.add(tuple(raw.case_words(case)))
         answers[case["call"], answer] += 1
         seen.update(short_seen(case, answer))
-    same(len(stored_cases()), rawshort.FIRST + len(rawshort.TURNS), "stored cases")
     wanted = set(short_wanted())
     same(sorted(map(str, wanted - seen)), [], "what no case of short logs has")
     return "%d cases, %d pairs of call and answer, %d edges" % (len(rawshort.TURNS), len(answers), len(wanted))
@@ -2718,8 +2981,161 @@ def short_streams(st):
     return "%d finishes with a short log, %d with a full one" % (logs["short"], logs["full"])
 
 
+# ---- raw cases of the order in which sessions began -----------------------
+
+def above(st):
+    """The model's files, those above the store on this copy of it."""
+    if st is store:
+        return FILES
+    files = {store: st}
+    for module in (reels, listening):
+        files[module] = copied(text_of(module.__name__ + ".py"))
+        for below in list(files)[:-1]:
+            setattr(files[module], below.__name__, files[below])
+    return files
+
+
+@functools.lru_cache(maxsize=None)
+def order_wanted():
+    """What the model gives for each case of the order."""
+    return [raw.run(case) for *_, case in raworder.TURNS]
+
+
+def order_cases(st):
+    """The cases of the order meet their aims, and each leaves the order that it states; all else is as the model gives
+    it."""
+    files = above(st)
+    for number, (why, answer, value, order, case) in enumerate(raworder.TURNS):
+        what = "order case %d, %s" % (number, why)
+        done = raw.run(case, files[raw.library_of(case["call"])])
+        same((*answer_of(done), done["desk"]["order"]), (answer, value, order), what)
+        same(done, order_wanted()[number], what)
+    return "%d cases" % len(raworder.TURNS)
+
+
+def order_seen(case, answer, broken):
+    """What a case has of all that is wanted by hand."""
+    call, desk = case["call"], case["desk"]
+    active = [session for session in range(16) if desk["sessions"][session]["phase"] == "active"]
+    order, used = desk["order"], len(active)
+    for rule in broken if len(broken) == 1 else ():
+        yield "alone", rule, call, answer
+        yield rule, used, "session 0 active" if 0 in active else "session 0 not active"
+    if broken == ["listed"]:
+        for at, session in enumerate(order[:used]):
+            if session not in active:
+                yield "in place", at, desk["sessions"][session]["phase"] if session < 16 else session
+    if broken == ["unused listed"]:
+        yield from (("unused place", used, at) for at in range(used, 16) if order[at])
+    if broken == ["starts rise"]:
+        starts = [desk["sessions"][session]["number"] for session in order[:used]]
+        yield from (("falls at", used, at) for at in range(1, used) if starts[at] < starts[at - 1])
+    if not broken and call == "begin" and answer == "start":
+        yield "begin", used, case["session"]
+    if not broken and answer in ("ok", "empty", "sealed", 7) and call not in ("settle",) and case["session"] in active:
+        at = order.index(case["session"])
+        where = "only" if used == 1 else "first" if at == 0 else "last" if at == used - 1 else "in between"
+        yield "goes", call, answer, where
+        yield "goes", answer, case["session"], used
+    if call == "settle" and not broken and answer in ("ok", "wait"):
+        starts = [desk["sessions"][session]["number"] for session in order[:used]]
+        run = starts.count(starts[0]) if starts else 0
+        yield "run", answer, run, run == used
+        if run:
+            yield "lowest at", answer, run, order.index(min(order[:run]))
+            yield "session 0", answer, desk["sessions"][0]["phase"], 0 in order[:run] and 0 in active
+
+
+def order_hoped():
+    """By hand: what the cases of the order have."""
+    rules = ["listed", "listed once", "starts rise", "unused listed"]
+    yield from (("alone", rule, call, 2) for rule in rules for call in raworder.CALLS)
+    yield from (("alone", "listed", call, 1) for call in ("read", "write reel", "find", GROUP))
+    yield from ((rule, 16, "session 0 active") for rule in rules[:3])
+    yield from ((rule, 4, "session 0 not active") for rule in rules[:1])
+    yield from (("in place", at, who) for at in (0, 3) for who in ("idle", "sealed", "published", 16))
+    yield from (("in place", at, 255) for at in (0, 2))
+    yield from (("unused place", 0, at) for at in range(16))
+    yield from (("unused place", used, 15) for used in (0, 1, 4, 15))
+    yield from (("falls at", 16, at) for at in range(1, 16))
+    yield from (("begin", used, session) for used in (0, 1, 15) for session in (0, 1, 15))
+    ways = [("abandon", "ok"), ("finish", "empty"), ("finish", "sealed"), ("write", 7), ("finish listening", "empty")]
+    yield from (("goes", *way, where) for way in ways for where in ("only", "first", "in between", "last"))
+    yield from (("goes", answer, 0, used) for answer in ("ok", "empty", "sealed", 7) for used in (1, 3, 4, 16))
+    yield from (("run", "wait", run, whole) for run in (1, 2, 3) for whole in (True, False))
+    yield from (("run", "wait", 15, True), ("run", "wait", 14, False), ("run", "ok", 0, True), ("run", "ok", 15, True))
+    yield from (("lowest at", "wait", 15, at) for at in (0, 7, 14))
+    yield from (("session 0", "wait", phase, False) for phase in ("idle", "active", "sealed", "published"))
+    yield "session 0", "wait", "active", True
+
+
+def order_aims(st):
+    """The cases of the order have the stated form, are the stored ones and new; refused ones leave all; all that is
+    wanted of them by hand occurs."""
+    before = {tuple(raw.case_words(case)) for case, _ in stored_cases()[:raworder.FIRST]}
+    seen, answers = set(), Counter()
+    for number, (why, answer, _, _, case) in enumerate(raworder.TURNS):
+        what = "order case %d, %s" % (number, why)
+        check_format(case, what)
+        same(stored_cases()[raworder.FIRST + number][0], case, what + " as it is stored")
+        done = made_unaltered(case)
+        if isinstance(answer, int) and answer != 7:
+            left(done, case["image"], case["desk"], what)
+        same(tuple(raw.case_words(case)) in before, False, what + " is there already")
+        before.add(tuple(raw.case_words(case)))
+        answers[case["call"], answer] += 1
+        broken = store.broken_rules(case["desk"])
+        same(bool(broken), not order_right(case["desk"]), what + ", the order")
+        seen.update(order_seen(case, answer, broken))
+    same(len(stored_cases()), raworder.FIRST + len(raworder.TURNS), "stored cases")
+    wanted = set(order_hoped())
+    same(sorted(map(str, wanted - seen)), [], "what no case of the order has")
+    return "%d cases, %d pairs of call and answer, %d edges" % (len(raworder.TURNS), len(answers), len(wanted))
+
+
+def order_lists(st):
+    """The other stored cases have orders that are right, so that what they are for is all that is wrong with them."""
+    seen = Counter()
+    for number, (case, _) in enumerate(stored_cases()[:raworder.FIRST]):
+        if case["desk"] is not None:
+            same(order_right(case["desk"]), True, "order of stored case %d" % number)
+            numbers = [e["number"] for e in case["desk"]["sessions"]]
+            used = case["desk"]["order"][:sum(e["phase"] == "active" for e in case["desk"]["sessions"])]
+            for one, other in zip(used, used[1:]):
+                if numbers[one] == numbers[other]:
+                    seen["rises" if one < other else "falls"] += 1
+    same(min(seen["rises"], seen["falls"]) > 1000, True, "equal starts in both orders")
+    return "equal starts: session rises %(rises)d, falls %(falls)d" % seen
+
+
+def order_streams(st):
+    """The streams of the order: each way to end with the first, the last and one in between; up to sixteen active."""
+    seen, most = Counter(), Counter()
+    for seed in range(1, stored.SEEDS["order"] + 1):
+        walk, data, at = reelwalk.Walk(st), streams.stream("order", seed), 0
+        while at < len(data):
+            size, before = reelwalk.BODIES[data[at]], walk.desk
+            name = streams.label(walk.step(data[at], data[at + 1:at + 1 + size])[0])
+            if before is not None and walk.desk is not None:
+                used = [sum(e["phase"] == "active" for e in desk["sessions"]) for desk in (before, walk.desk)]
+                if used[0] - used[1] == 1 and before["clock"] == walk.desk["clock"]:
+                    place = before["order"].index(data[at + 1])
+                    where = "first" if place == 0 else "last" if place == used[0] - 1 else "in between"
+                    seen.update([(name, where), (name, data[at + 1])])
+                most[data[2]] = max(most[data[2]], used[1])
+            seen[name] += 1
+            at += 1 + size
+    wanted = [(name, where) for name in ("finish empty", "finish sealed", "abandon ok", "write no 7")
+              for where in ("first", "last", "in between", 0, 15)]
+    same([case for case in wanted if not seen[case]], [], "what no stream has")
+    same([m for m in set(streams.ORDER_M) if most[m] != m], [], "sessions that are never all active")
+    same(min(seen["settle wait"], seen["settle ok"]) > 300, True, "settles that wait, and that don't")
+    return "waits %d, settled %d, up to %d active" % (seen["settle wait"], seen["settle ok"], max(most.values()))
+
+
 FILES = {module: module for module in (store, reels, listening)}
 BY_SHORT = [short_finishes, short_replays, short_refusals, short_ties, short_cuts, short_cases]
+BY_ORDER = [order_rules, order_calls, order_refusals, order_fronts, order_runs, order_cases]
 BY_CEILING = [ceiling_opens, ceiling_orders, ceiling_publishes, ceiling_coherence, lives, ceiling_cases]
 BY_GROUP = [group_sets, group_orders, group_raises, group_singles, group_moment, group_cuts, group_ends, group_runs,
             group_cases]
@@ -2735,6 +3151,7 @@ ALL += [(test, listening) for test in BY_LISTENING + [listening_aims]]
 ALL += [(older_cases, FILES), (alone_cases, FILES), (alone_aims, store)]
 ALL += [(speed_cases, reels), (speed_aims, reels)]
 ALL += [(test, store) for test in BY_SHORT + [short_aims, short_streams]]
+ALL += [(test, store) for test in BY_ORDER + [order_aims, order_lists, order_streams]]
 
 
 # ---- faulty copies -------------------------------------------------------
@@ -2796,7 +3213,7 @@ STORE_FAULTS = [
     ("write reserves slot 0 always",
      "return empty[0] if empty else None", "return 0 if empty else None"),
     ("write refused by 7 leaves the caller active",
-     "no(7, holder), made_idle(desk, session)", "no(7, holder), desk"),
+     "no(7, holder), ended(desk, session)", "no(7, holder), desk"),
     ("write takes a record that another holds", "if holder is not None:  #", "if False:  #"),
     ("the checks for session and record exchanged",
      "if session >= desk[\"M\"]:\n        return no(4)\n    if record is not None",
@@ -2849,6 +3266,10 @@ CEILING_FAULTS = [
     ("open refused with 10 gives a desk", "return result(refusal, new_desk(0, 0, 0), image)",
      "return result(refusal, new_desk(*([1, image[1], image[2]] if refusal[\"number\"] == 10\n"
      "                                     else [0, 0, 0])), image)"),
+    ("open gives a desk that lists sessions", "new_desk(clock, image[1], image[2])",
+     "dict(new_desk(clock, image[1], image[2]), order=list(range(16)))"),
+    ("open refused gives a desk that lists sessions", "return result(refusal, new_desk(0, 0, 0), image)",
+     "return result(refusal, dict(new_desk(0, 0, 0), order=[255] * 16), image)"),
     ("open without a raise", OPEN_RAISE, "image[2]), image)"),
     ("open's raise without its fence", OPEN_RAISE, "image[2]), image, raised(clock)[:1])"),
     ("open's fence before its store", OPEN_RAISE, "image[2]), image, raised(clock)[::-1])"),
@@ -3153,6 +3574,9 @@ REEL_FAULTS = [
      "return store.result(store.said(\"metres\"))"),
     ("the length of an unused record is refused",
      "answer = meaning(words)\n", "answer = meaning(words) if words != UNUSED else store.no(15)\n"),
+    ("a reel refused with 7 leaves its writer listed", "return store.write(image, desk, session, record, answer[\"words\"])",
+     "done = store.write(image, desk, session, record, answer[\"words\"])\n"
+     "    return dict(done, desk=dict(done[\"desk\"], order=desk[\"order\"]))"),
     ("the length of a bad record is unknown",
      "    if answer[\"name\"] == \"no\":\n        return store.result(answer)\n",
      "    if answer[\"name\"] == \"no\":\n        return store.result(store.said(\"unknown\"))\n"),
@@ -3311,9 +3735,9 @@ LISTENING_FAULTS = [
     ("none with N", "said(\"none\")", "said(\"none\", desk[\"N\"])"),
     ("none given as record 0", "said(\"none\")", "said(\"found\")"),
     ("find makes the session idle", "said(\"found\", record), desk,",
-     "said(\"found\", record), store.made_idle(desk, session),"),
+     "said(\"found\", record), store.ended(desk, session),"),
     ("find without a match makes the session idle", "said(\"none\"), desk,",
-     "said(\"none\"), store.made_idle(desk, session),"),
+     "said(\"none\"), store.ended(desk, session),"),
     ("999,999 refused", "if not reels.shelf_right(number):",
      "if not reels.shelf_right(number) or number == 999999:"),
     ("1 refused", "if not reels.shelf_right(number):", "if not reels.shelf_right(number) or number == 1:"),
@@ -3343,7 +3767,7 @@ LISTENING_FAULTS = [
     ("18 makes the session idle", "    refusal = turned_away(image, desk, session)\n",
      "    refusal = turned_away(image, desk, session)\n"
      "    if refusal and refusal[\"number\"] == 18:\n"
-     "        return store.result(refusal, store.made_idle(desk, session), image)\n"),
+     "        return store.result(refusal, store.ended(desk, session), image)\n"),
     ("read of a session with copies as the store reads", "turned_away(image, desk, session, record=record)",
      "store.turned_away(desk, session, image, record=record, phase=\"active\")"),
     ("read refuses by 18 only a record that the session copies",
@@ -3356,7 +3780,7 @@ LISTENING_FAULTS = [
      "store.turned_away(desk, session, image, trace, phase=\"active\")"),
     ("finish with copies empties", FINISH_STOP,
      "        if refusal[\"number\"] != 18:\n            return store.result(refusal, desk, image)\n"
-     "        return store.result(store.said(\"empty\"), store.made_idle(desk, session), image)\n"
+     "        return store.result(store.said(\"empty\"), store.ended(desk, session), image)\n"
      "    return store.finish(image, desk, trace, session)"),
     ("finish checks 10 before 18", FINISH_STOP,
      "        done = store.finish(image, desk, trace, session)\n"
@@ -3371,9 +3795,17 @@ LISTENING_FAULTS = [
      "store.turned_away(desk, session, image, phase=\"active\")\n"),
     ("begin changes nothing", "return store.begin(desk, session)",
      "return dict(store.begin(desk, session), desk=desk)"),
+    *[("begin %s" % name, "return store.begin(desk, session)",
+       "done = store.begin(desk, session)\n    if done[\"answer\"][\"name\"] == \"no\":\n        return done\n"
+       "    return dict(done, desk=dict(done[\"desk\"], order=%s))" % order)
+      for name, order in (("of a listener is not listed", "desk[\"order\"]"),
+                          ("of a listener at the front", "[session] + desk[\"order\"][:15]"))],
+    ("finish of a listener leaves it listed", "return store.finish(image, desk, trace, session)",
+     "done = store.finish(image, desk, trace, session)\n"
+     "    return dict(done, desk=dict(done[\"desk\"], order=desk[\"order\"]))"),
     ("begin again by an active session", "return store.begin(desk, session)",
      "again = session < 16 and desk[\"sessions\"][session][\"phase\"] == \"active\"\n"
-     "    return store.begin(store.made_idle(desk, session) if again else desk, session)"),
+     "    return store.begin(store.ended(desk, session) if again else desk, session)"),
 ]
 
 # The same, of each file: what the stored cases that have one cause alone tell, and no stored case before them. By
@@ -3655,12 +4087,214 @@ SHORT_FAULTS = [
         "trace", "48 if session < 16 and trace >= 8 and desk[\"sessions\"][session][\"count\"] == 2 else trace")),
 ]
 
+# The same, of Req 09.
+IN_USE = "return sum(is_active(desk, session) for session in range(16))"
+ADDED = "return desk[\"order\"][:used] + [session] + desk[\"order\"][used + 1:]"
+REMOVED = "return desk[\"order\"][:at] + desk[\"order\"][at + 1:] + [0]"
+LISTED = "return all(is_active(desk, session) for session in desk[\"order\"][:in_use(desk)])"
+LISTED_IF = "return all(%s for at, session in enumerate(desk[\"order\"][:in_use(desk)]))"
+ONCE = "return len(set(used)) == len(used)"
+STARTS_OF = "if is_active(desk, session)]\n    return all"
+PAIRS = "zip(starts, starts[1:])"
+RISES = "return all(one <= other for one, other in %s)" % PAIRS
+SPARE = "return not any(desk[\"order\"][in_use(desk):])"
+ABANDONED = "result(said(\"ok\"), ended(desk, session))"
+EMPTIED = "said(\"empty\"), ended(desk, session), image)"
+SEALED = "dict(with_phase(desk, session, \"sealed\", number), order=removed(desk, session))"
+TURNED_AWAY = "no(7, holder), ended(desk, session), image)"
+SETTLED = "return result(said(\"ok\"), made_idle(desk, session), image, entries)"
+LOST = "dict(desk, order=desk[\"order\"][1:] + [0])"  # the first place is lost
+GONE = "dict(desk, order=removed(desk, session))"
+IN_THE_WAY = """in_the_way = [(e["number"], other) for other, e in enumerate(desk["sessions"])
+                  if e["phase"] == "active" and e["number"] < own["number"]]"""
+ALL_USED = "desk[\"order\"][:in_use(desk)]"
+RUN, BELOW = "[s for s in used if at(s) == at(used[0])]", "at(used[0]) < own[\"number\"]"
+
+
+def by_walk(used=ALL_USED, run=RUN, named="run", below=BELOW):
+    """A settle that reads the places used, finds the front run in them, and names the lowest of these if this holds."""
+    return ("at = lambda session: desk[\"sessions\"][session][\"number\"]\n    used = %s\n    run = %s\n"
+            "    in_the_way = [(0, session) for session in %s] if used and %s else []" % (used, run, named, below))
+
+
+ORDER_FAULTS = [
+    ("the order may have sessions that are not active", "\"listed\": rule_listed, ", ""),
+    ("a session may be listed twice", "\"listed once\": rule_listed_once,\n", "\n"),
+    ("starts may fall", "\"starts rise\": rule_starts_rise, ", ""),
+    ("unused places may have anything", ", \"unused listed\": rule_unused_listed}", "}"),
+    ("only the first place is asked for an active session", LISTED, LISTED_IF % "at > 0 or is_active(desk, session)"),
+    ("all but the first place are asked", LISTED, LISTED_IF % "at == 0 or is_active(desk, session)"),
+    ("all but the last place in use are asked", LISTED,
+     LISTED_IF % "at == in_use(desk) - 1 or is_active(desk, session)"),
+    ("place 15 is not asked", LISTED, LISTED_IF % "at == 15 or is_active(desk, session)"),
+    ("places from 8 up are not asked", LISTED, LISTED_IF % "at >= 8 or is_active(desk, session)"),
+    ("16 and more are no sessions and pass", LISTED, LISTED_IF % "session >= 16 or is_active(desk, session)"),
+    ("255 passes", LISTED, LISTED_IF % "session == 255 or is_active(desk, session)"),
+    ("of 16 and more the low four bits count", LISTED, LISTED_IF % "is_active(desk, session % 16)"),
+    ("of 128 and more the low seven bits count", LISTED, LISTED_IF % "is_active(desk, session % 128)"),
+    ("0 passes although session 0 is not active", LISTED, LISTED_IF % "session == 0 or is_active(desk, session)"),
+    ("0 never passes", LISTED, LISTED_IF % "session != 0 and is_active(desk, session)"),
+    *[("a listed session may be %s" % phase, LISTED, LISTED_IF % (
+        "session < 16 and desk[\"sessions\"][session][\"phase\"] in (\"active\", \"%s\")" % phase))
+      for phase in ("idle", "sealed", "published")],
+    ("each active session stands somewhere in the sixteen places", LISTED,
+     "return all(session in desk[\"order\"] for session in range(16) if is_active(desk, session))"),
+    ("each active session but 0 stands in a place in use", LISTED,
+     "return all(session in desk[\"order\"][:in_use(desk)] for session in range(1, 16) if is_active(desk, session))"),
+    ("only neighbours are compared for a session twice", ONCE, "return all(a != b for a, b in zip(used, used[1:]))"),
+    ("only the first is looked for again", ONCE, "return used[:1] == [] or used[0] not in used[1:]"),
+    ("only the last is looked for again", ONCE, "return used[:1] == [] or used[-1] not in used[:-1]"),
+    ("the first may stand again", ONCE, "return len(set(used[1:])) == len(used[1:])"),
+    ("the last may stand before", ONCE, "return len(set(used[:-1])) == len(used[:-1])"),
+    ("session 0 may stand twice", ONCE, "return all(used.count(session) == 1 for session in used if session != 0)"),
+    ("a session may stand twice, not three times", ONCE, "return all(used.count(session) < 3 for session in used)"),
+    ("neighbours may be the same", ONCE,
+     "return all(used[a] != used[b] for b in range(len(used)) for a in range(b - 1))"),
+    ("unused places are asked for a session twice too", ONCE,
+     "return len(set(used)) == len(used) and not (len(used) < 15 and 0 in used)"),
+    ("starts must rise at each place", RISES, RISES.replace("<=", "<")),
+    ("starts must fall", RISES, RISES.replace("<=", ">=")),
+    ("only the first two starts are compared", RISES, RISES.replace("starts[1:]", "starts[1:2]")),
+    ("only the last two starts are compared", RISES, RISES.replace(PAIRS, "zip(starts[-2:-1], starts[-1:])")),
+    ("the first start is not compared", RISES, RISES.replace(PAIRS, "zip(starts[1:], starts[2:])")),
+    ("the last start is not compared", RISES, RISES.replace("starts[1:]", "starts[1:-1]")),
+    ("place 15 has any start", RISES, RISES.replace("starts[1:]", "starts[1:15]")),
+    ("every second pair of starts is compared", RISES, RISES.replace(PAIRS, "zip(starts[::2], starts[1::2])")),
+    ("each start is compared with the first alone", RISES, RISES.replace(PAIRS, "((starts[0], s) for s in starts)")),
+    ("the first start is compared with the last alone", RISES, "return not starts or starts[0] <= starts[-1]"),
+    ("a start may fall by 1", RISES, RISES.replace("other for", "other + 1 for")),
+    ("the low 32 bits of starts are compared", RISES,
+     RISES.replace("one <= other", "one % 2 ** 32 <= other % 2 ** 32")),
+    ("the high bits of starts are compared", RISES, RISES.replace("one <= other", "one >> 3 <= other >> 3")),
+    ("session 0 may have any start", STARTS_OF, STARTS_OF.replace("]", " and session != 0]", 1)),
+    ("the session decides among equal starts", RISES,
+     "pairs = [(desk[\"sessions\"][session % 16][\"number\"], session) for session in desk[\"order\"][:in_use(desk)]]\n"
+     "    return pairs == sorted(pairs)"),
+    ("the order is by session", RISES, "return sorted(%s) == %s" % (ALL_USED, ALL_USED)),
+    ("the first unused place is not asked", SPARE, SPARE.replace("):]", ") + 1:]")),
+    ("place 15 is not asked where it is unused", SPARE, SPARE.replace("):]", "):15]")),
+    ("only the first unused place is asked", SPARE, SPARE.replace("):]", "):][:1]")),
+    ("only place 15 is asked where it is unused", SPARE, SPARE.replace("):]", "):][-1:]")),
+    ("an unused place may have 16 and more", SPARE,
+     "return not any(0 < session < 16 for session in desk[\"order\"][in_use(desk):])"),
+    ("an unused place may have an active session", SPARE,
+     "return all(session == 0 or is_active(desk, session) for session in desk[\"order\"][in_use(desk):])"),
+    ("an unused place may have an idle session", SPARE,
+     "return all(s == 0 or s < 16 and desk[\"sessions\"][s][\"phase\"] == \"idle\"\n"
+     "               for s in desk[\"order\"][in_use(desk):])"),
+    ("with nobody active no place is asked", SPARE, SPARE + " or in_use(desk) == 0"),
+    ("places are in use up to the first 0", IN_USE, "return (desk[\"order\"] + [0]).index(0)"),
+    ("places are in use up to the last that is not 0", IN_USE,
+     "return max([at + 1 for at, session in enumerate(desk[\"order\"]) if session], default=0)"),
+    ("as many places are in use as are not 0", IN_USE, "return sum(session != 0 for session in desk[\"order\"])"),
+    ("session 0 is not counted", IN_USE, IN_USE.replace("range(16)", "range(1, 16)")),
+    ("session 15 is not counted", IN_USE, IN_USE.replace("range(16)", "range(15)")),
+    ("only sessions without copies are counted", IN_USE,
+     "return sum(is_active(desk, session) and desk[\"sessions\"][session][\"count\"] == 0 for session in range(16))"),
+    *[("%s sessions are counted too" % phase, IN_USE,
+       "return sum(e[\"phase\"] in (\"active\", \"%s\") for e in desk[\"sessions\"])" % phase)
+      for phase in ("sealed", "published")],
+    ("begin at the front", ADDED, "return [session] + desk[\"order\"][:15]"),
+    ("begin at the place of its number", ADDED, ADDED.replace("used", "session")),
+    ("begin at the first place that is 0", ADDED, "used = desk[\"order\"].index(0)\n    " + ADDED),
+    ("begin in place 15", ADDED, "return desk[\"order\"][:15] + [session]"),
+    ("begin in the last place in use", ADDED, "used = max(0, used - 1)\n    " + ADDED),
+    ("begin one place too far", ADDED, "used = min(15, used + 1)\n    " + ADDED),
+    ("begin before the last one", ADDED,
+     "at = max(0, used - 1)\n    return (desk[\"order\"][:at] + [session] + desk[\"order\"][at:])[:16]"),
+    ("begin by session among all", ADDED,
+     "return sorted(desk[\"order\"][:used] + [session]) + desk[\"order\"][used + 1:]"),
+    ("begin by session among equal starts", ADDED,
+     "start = lambda s: (desk[\"clock\"] if s == session else desk[\"sessions\"][s][\"number\"], s)\n"
+     "    return sorted(desk[\"order\"][:used] + [session], key=start) + desk[\"order\"][used + 1:]"),
+    ("begin before those with an equal start", ADDED,
+     "at = sum(desk[\"sessions\"][s][\"number\"] < desk[\"clock\"] for s in desk[\"order\"][:used])\n"
+     "    return (desk[\"order\"][:at] + [session] + desk[\"order\"][at:])[:16]"),
+    ("begin lists nobody", ADDED, "return desk[\"order\"]"),
+    ("begin lists the next session", ADDED, ADDED.replace("[session]", "[session + 1]")),
+    ("begin lists nobody in the last place", ADDED, ADDED + " if used < 15 else desk[\"order\"]"),
+    ("begin drops the others", ADDED, "return [0] * used + [session] + desk[\"order\"][used + 1:]"),
+    ("abandon keeps the order", ABANDONED, ABANDONED.replace("ended", "made_idle")),
+    ("an empty finish keeps the order", EMPTIED, EMPTIED.replace("ended", "made_idle")),
+    ("a finish that seals keeps the order", SEALED, "with_phase(desk, session, \"sealed\", number)"),
+    ("a write refused with 7 keeps the order", TURNED_AWAY, TURNED_AWAY.replace("ended", "made_idle")),
+    ("a write refused with 7 removes the holder", TURNED_AWAY,
+     "no(7, holder), dict(made_idle(desk, session), order=removed(\n"
+     "            desk, holder if is_active(desk, holder) else session)), image)"),
+    ("one that goes leaves a 0 behind", REMOVED, "return desk[\"order\"][:at] + [0] + desk[\"order\"][at + 1:]"),
+    ("the last one takes its place", REMOVED, "order, last = list(desk[\"order\"]), in_use(desk) - 1\n"
+     "    order[at], order[last] = order[last], 0\n    return order"),
+    ("the last one goes", REMOVED, "at = in_use(desk) - 1\n    " + REMOVED),
+    ("the first one goes", REMOVED, "at = 0\n    " + REMOVED),
+    ("the next one goes", REMOVED, "at = min(at + 1, in_use(desk) - 1)\n    " + REMOVED),
+    ("the one behind it is left where it was", REMOVED,
+     "return desk[\"order\"][:at] + [0] + desk[\"order\"][at + 2:] + [0]"),
+    ("the last place keeps its number", REMOVED,
+     "return desk[\"order\"][:at] + desk[\"order\"][at + 1:] + desk[\"order\"][15:]"),
+    ("the last place in use keeps its number", REMOVED, "order, used = desk[\"order\"], in_use(desk)\n"
+     "    return order[:at] + order[at + 1:used] + order[used - 1:used] + order[used:]"),
+    ("those behind it go too", REMOVED, "return desk[\"order\"][:at] + [0] * (16 - at)"),
+    ("those before it go too", REMOVED, "return desk[\"order\"][at + 1:] + [0] * (at + 1)"),
+    *[(name, REMOVED, "order = desk[\"order\"][:at] + desk[\"order\"][at + 1:in_use(desk)]\n"
+       "    return %s + [0] * (16 - len(order))" % rest)
+      for name, rest in (("the rest is turned round", "order[::-1]"), ("the rest goes by session", "sorted(order)"))],
+    ("session 0 is not found", REMOVED, REMOVED + " if session else desk[\"order\"]"),
+    ("session 0 is taken for the last place", REMOVED, REMOVED + " if session else desk[\"order\"][:15] + [0]"),
+    ("nobody goes from place 15", REMOVED, REMOVED + " if at < 15 else desk[\"order\"]"),
+    ("all go", REMOVED, "return [0] * 16"),
+    *[("refused with %d it is removed" % number, "return result(no(%d), desk, image)" % number,
+       "return result(no(%d), %s, image)" % (number, GONE)) for number in (8, 9, 10)],
+    ("a write moves the session to the end", "copied(desk, session, record, words, slot), image)",
+     "copied(dict(desk, order=removed(desk, session)[:in_use(desk) - 1] + [session] + [0] * (16 - in_use(desk))),\n"
+     "                                    session, record, words, slot), image)"),
+    ("a write over an own copy removes", "overwritten(desk, session, place, words), image)",
+     "overwritten(%s, session, place, words), image)" % GONE),
+    ("a read removes", "words=home(image, record)), desk, image)", "words=home(image, record)), %s, image)" % GONE),
+    ("settle removes the first", SETTLED, SETTLED.replace("made_idle(desk,", "made_idle(%s," % LOST)),
+    ("a settle that waits removes the first", "said(\"wait\", named), desk,", "said(\"wait\", named), %s," % LOST),
+    ("a settle that waits removes the one it names", "said(\"wait\", named), desk,",
+     "said(\"wait\", named), dict(desk, order=removed(desk, named)),"),
+    ("publish removes the first", "clock=end),\n", "clock=end, order=desk[\"order\"][1:] + [0]),\n"),
+    ("publish lists the session", "clock=end),\n", "clock=end, order=added(desk, session)),\n"),
+    ("a group's publish removes the first", "dict(desk, clock=clock), image, entries)",
+     "dict(%s, clock=clock), image, entries)" % LOST),
+    ("a group's publish lists a member", "dict(desk, clock=clock), image, entries)",
+     "dict(desk, clock=clock, order=added(desk, sessions[0])), image, entries)"),
+    ("reclaim removes the first", "said(\"cleared\", number), desk,", "said(\"cleared\", number), %s," % LOST),
+    ("reclaim without a log removes the first", "said(\"none\"), desk,", "said(\"none\"), %s," % LOST),
+    ("settle names the first of the run", IN_THE_WAY, by_walk(named="run[:1]")),
+    ("settle names the last of the run", IN_THE_WAY, by_walk(named="run[-1:]")),
+    ("settle names the lowest that is listed", IN_THE_WAY, by_walk(named="used")),
+    ("settle names the lowest in the way", IN_THE_WAY, by_walk(named="[s for s in used if at(s) < own[\"number\"]]")),
+    ("settle names the lowest of the first two", IN_THE_WAY, by_walk(named="used[:2]")),
+    ("settle walks one place too few", IN_THE_WAY, by_walk(named="run[:-1] or run")),
+    ("settle walks one place too many", IN_THE_WAY, by_walk(named="used[:len(run) + 1]")),
+    ("settle walks one place too many, unused or not", IN_THE_WAY, by_walk(named="desk[\"order\"][:len(run) + 1]")),
+    ("settle reads one place in use too few", IN_THE_WAY, by_walk("desk[\"order\"][:in_use(desk) - 1]")),
+    ("settle reads one place too many for the run", IN_THE_WAY, by_walk(
+        "desk[\"order\"][:in_use(desk) and in_use(desk) + 1]")),
+    ("settle walks eight places at most", IN_THE_WAY, by_walk("desk[\"order\"][:min(8, in_use(desk))]")),
+    ("settle walks fourteen places at most", IN_THE_WAY, by_walk("desk[\"order\"][:min(14, in_use(desk))]")),
+    ("settle ends the run by the value 0", IN_THE_WAY, by_walk("desk[\"order\"][:(desk[\"order\"] + [0]).index(0)]")),
+    ("settle ends the run by the value 0 behind the first", IN_THE_WAY, by_walk(
+        "desk[\"order\"][:in_use(desk) and (desk[\"order\"][1:] + [0]).index(0) + 1]")),
+    ("settle walks all sixteen places", IN_THE_WAY, by_walk("desk[\"order\"]")),
+    ("settle walks all sixteen places if any is in use", IN_THE_WAY, by_walk(
+        "desk[\"order\"] if in_use(desk) else []")),
+    ("settle takes a start at the end to be in the way", IN_THE_WAY, by_walk(below="at(used[0]) <= own[\"number\"]")),
+    ("settle looks at the last start", IN_THE_WAY, by_walk(below="at(used[-1]) < own[\"number\"]")),
+    ("settle takes the last run", IN_THE_WAY, by_walk(run="[s for s in used if at(s) == at(used[-1])]")),
+    ("settle takes the next start into the run", IN_THE_WAY, by_walk(
+        run="[s for s in used if at(s) <= at(used[0]) + 1]")),
+]
+
 # File, its module, the tests that are run on copies of it, those that each must catch every fault alone, and
 # the faults.
 PLANTED = [("store.py", store, BY_STORE, [], STORE_FAULTS),
            ("store.py", store, BY_CEILING, [ceiling_cases], CEILING_FAULTS),
            ("store.py", store, BY_GROUP, [group_cases], GROUP_FAULTS),
            ("store.py", store, BY_SHORT, [short_cases], SHORT_FAULTS),
+           ("store.py", store, BY_ORDER, [order_cases], ORDER_FAULTS),
            ("reelwalk.py", reelwalk, BY_WALK, [], WALK_FAULTS), ("reels.py", reels, BY_REELS, [], REEL_FAULTS),
            ("reels.py", reels, BY_REELS + [speed_cases], [speed_cases], SPEED_FAULTS),
            ("listening.py", listening, BY_LISTENING, [listening_cases], LISTENING_FAULTS)]
@@ -3730,6 +4364,9 @@ def run_faults():
             planted, missed = planted + 1, missed + (not caught or bool(without))
             print("%-62s %s%s" % (name, ", ".join(caught) or "NOT CAUGHT",
                                   "".join(", NOT BY " + test for test in without)), flush=True)
+    for used in (ALL_USED, "[session for session in desk[\"order\"] if is_active(desk, session)]"):
+        walk = faulty("store.py", IN_THE_WAY, by_walk(used))
+        same(catching(BY_ORDER, walk), [], "no fault: a settle that reads the front run alone")
     same(catching([older_cases, alone_cases], FILES), [], "no fault")
     for file, faults in ALONE:
         for name, old, new in faults:

@@ -51,7 +51,7 @@ abs d = record { clock = d .clock; session = λ t. pack (sessionAt d t) }
 
 -- a session put in the array is a session put
 pub abs-put : (d : Desk) (clock n m s : ℕ) (e : Session) (hs : List ℕ) → s < length (d .sessions)
-    → abs (record { clock = clock; n = n; m = m; holders = hs; sessions = set (d .sessions) s e }) ≡ withSession s (pack e) (record { clock = clock; session = abs d .session })
+    → abs (record { clock = clock; n = n; m = m; holders = hs; sessions = set (d .sessions) s e; order = d .order }) ≡ withSession s (pack e) (record { clock = clock; session = abs d .session })
 abs-put d clock n m s e hs l = ap (λ (f : ℕ → Txn). record { clock = clock; session = f }) (fun-ext (λ t. go t (ℕ-discrete t s)))
   where
     go : (t : ℕ) → Dec (t ≡ s) → pack (getD (set (d .sessions) s e) t noSession) ≡ upd s (pack e) (λ u. pack (sessionAt d u)) t

@@ -9,7 +9,7 @@ use lib.Dec.{leb, ltb}
 use borrow.Author.Tests.{lt-ltb, le-ltb, leb-true, leb-false}
 use Rattle.layout.specs.Checks.{unless, first}
 use Rattle.layout.proofs.Says.{by-test}
-use Rattle.desk.specs.Desk.{sessionAt, markAt, idleSession, changed, unmarked, dropped}
+use Rattle.desk.specs.Desk.{markAt, idleSession, changed, without, restMarks, dropped}
 use Rattle.desk.specs.declared.state.Session.{Session}
 use Rattle.desk.specs.declared.state.Desk.{Desk}
 use Rattle.desk.proofs.Facts.{says-coherent}
@@ -60,11 +60,11 @@ module _ (c : Call) (f : ℕ → ℕ) (d : Desk) (t : Told) where
   told n = record { answers = refl; stored = refl; desk = sym n }
 
   -- told, and another entry for one session
-  pub entered : (s : ℕ) (e : Session) (hs : List ℕ) (x : Txn) → s < length (d .sessions) → pack e ≡ x → noteDesk c t f (abs d) ≡ withSession s x (abs d)
-      → Sim c f d t [] (changed d s e (d .clock) hs) (say t)
-  entered s e hs x l p n =
+  pub entered : (s : ℕ) (e : Session) (hs os : List ℕ) (x : Txn) → s < length (d .sessions) → pack e ≡ x → noteDesk c t f (abs d) ≡ withSession s x (abs d)
+      → Sim c f d t [] (changed d s e (d .clock) hs os) (say t)
+  entered s e hs os x l p n =
       record { answers = refl; stored = refl; desk = (rw (← p) (abs-put d (d .clock) (d .n) (d .m) s e hs l)) ∙ sym n }
 
   -- told, and one session idle with its marks and copies dropped
   pub emptied : (s : ℕ) → s < length (d .sessions) → noteDesk c t f (abs d) ≡ withSession s idle (abs d) → Sim c f d t [] (dropped d s) (say t)
-  emptied s l n = entered s idleSession (unmarked (d .holders) (sessionAt d s .copies) (sessionAt d s .count)) idle l refl n
+  emptied s l n = entered s idleSession (restMarks d s) (without s (d .order)) idle l refl n

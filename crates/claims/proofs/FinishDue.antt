@@ -18,7 +18,7 @@ use Rattle.journal.specs.Log.{bodyWrites, shortWrites, indexIn, wordIn, sealedB
 use Rattle.journal.proofs.ChangesLaws.{below-ascending}
 use Rattle.journal.proofs.LogGroups.{length-body, length-short, either-short, either-full}
 use Rattle.journal.proofs.Positions.{write, pair-index, pair-word, short-count, place-record, place-words, body-count}
-use Rattle.desk.specs.Desk.{noSession, copiedRec, copiedWords, sessionAt, isActive, idleSession, withPhase, putSession}
+use Rattle.desk.specs.Desk.{noSession, copiedRec, copiedWords, sessionAt, isActive, idleSession, withPhase, endSession}
 use Rattle.desk.specs.declared.state.Phase.the-variants.{Sealed}
 use Rattle.desk.specs.Entering.{imageFault}
 use Rattle.desk.specs.declared.state.Session.{Session}
@@ -154,7 +154,7 @@ inside (x ∷ xs) zero e = omega arith
 inside (x ∷ xs) (suc s) e = omega (arith, inside xs s e)
 
 -- a desk with another session in its place
-desk-with : (img : List ℕ) (d : Desk) (len s : ℕ) → finishFault img d len s ≡ 0 → (x : Session) → DeskWith d s x (putSession d s x)
+desk-with : (img : List ℕ) (d : Desk) (len s : ℕ) → finishFault img d len s ≡ 0 → (x : Session) → DeskWith d s x (endSession d s x (d .holders))
 unfolding finishFault
 desk-with img d len s z x =
     let active = unless-zero _ 5 (first-both (unless (isActive (sessionAt d s .phase)) 6) _ (first-both (imageFault img d (roomFor len) s) _ z .1) .0) in
@@ -188,7 +188,7 @@ module _ (img : List ℕ) (d : Desk) (len s : ℕ) (z : finishFault img d len s 
       let h = entered img d (roomFor len) s (first-both (imageFault img d (roomFor len) s) _ z .0) in
       pairs img d s (copies-below d (h .coherent) s (h .small)) (copies-differ d (h .coherent) s (h .small))
 
-  desk-is : storeRules .call img d (finish len s) .desk ≡ putSession d s (withPhase (sessionAt d s) (Sealed (d .clock)))
+  desk-is : storeRules .call img d (finish len s) .desk ≡ endSession d s (withPhase (sessionAt d s) (Sealed (d .clock))) (d .holders)
   unfolding finishReply
   desk-is = ap (λ (r : FinishReply). r .desk) (answered-zero (finishFault img d len s) _ _ z) ∙ rw (ne-eqb c 0 some)
 
@@ -213,7 +213,7 @@ module _ (img : List ℕ) (d : Desk) (len s : ℕ) (z : finishFault img d len s 
       }
 
 module _ (img : List ℕ) (d : Desk) (len s : ℕ) (z : finishFault img d len s ≡ 0) (none : sessionAt d s .count ≡ 0) where
-  empty-reply : finishReply img d len s ≡ record { answer = Empty; entries = 0; desk = putSession d s idleSession }
+  empty-reply : finishReply img d len s ≡ record { answer = Empty; entries = 0; desk = endSession d s idleSession (d .holders) }
   unfolding finishReply
   empty-reply = answered-zero (finishFault img d len s) _ _ z ∙ rw (eq-eqb (sessionAt d s .count) 0 none)
 

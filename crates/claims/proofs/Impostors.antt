@@ -23,7 +23,7 @@ use Rattle.journal.specs.Changes.{changesOf, changesBelow}
 use Rattle.journal.specs.Log.{pairsWrites, denoted, bodyWrites, shortWrites, unsoundB, sharedB}
 use Rattle.layout.specs.Oldest.{oldestOf}
 use Rattle.desk.specs.Coherent.{freshB, placesOk, sessionOk, copiesB, coherentB}
-use Rattle.desk.specs.Desk.{sessionAt, markAt, isSealed, idleSession}
+use Rattle.desk.specs.Desk.{sessionAt, markAt, isSealed, idleSession, startOf}
 use Rattle.desk.specs.Begin.{beginFault, beginRefused, begun, beginReply}
 use Rattle.desk.specs.Entering.{entryFault}
 use Rattle.desk.specs.Group.{member, storeFault, setFault, groupFault, groupEntries, groupReply}
@@ -34,7 +34,6 @@ use Rattle.desk.specs.declared.state.Phase.the-variants.{Idle, Active, Sealed, 
 use Rattle.desk.specs.declared.state.Desk.{Desk}
 use Rattle.layout.specs.Tidy.{Tidy}
 use Rattle.commit.specs.Finish.{finishFault}
-use Rattle.snapshot.specs.Read.{startOf}
 use Rattle.commit.specs.Settle.{endOf, startBelow, startsFor}
 use Rattle.commit.specs.Reclaim.{clearEntries}
 use Rattle.recovery.specs.Open.{openFault, openEntries, openReply}
@@ -62,6 +61,7 @@ use Rattle.claims.proofs.Abstraction.{txn-of, copiesOf, pack, marked}
 use Rattle.claims.proofs.Entering.{holder-named}
 use Rattle.claims.proofs.Along.{Along, same, step-along, run-along, opened-along, call-fenced}
 use Rattle.claims.proofs.Lists.{lists}
+use Rattle.claims.proofs.ListImpostors.{adds-in-front, keeps-finished, keeps-taken, leaves-gap, names-front}
 
 -- ---- what is due along a run
 
@@ -934,12 +934,12 @@ opens-at-clock h = eqb-false _ _ refl (ap word-of (h image 48 opens))
 -- a publish that is to raise, on a store whose ceiling is its clock
 publish-unraised : PublishStores (past 5 (relisting (λ es. []))) → ⊥
 unfolding allBelow anyBelow countBelow first answered shapedB freshB placesOk sessionOk copiesB coherentB entryFault publishFault publishEntries publishReply
-publish-unraised h = eqb-false _ _ refl (ap length (h (set (emptyImage 8 2) 3 3) (deskOf 3 oneMark (oneCopy (Sealed 1)) idleSession) 48 0 refl .stores))
+publish-unraised h = eqb-false _ _ refl (ap length (h (set (emptyImage 8 2) 3 3) (deskOf 3 oneMark 0 (oneCopy (Sealed 1)) idleSession) 48 0 refl .stores))
 
 publish-unfenced : ((img : List ℕ) (d : Desk) (len s : ℕ)
     → Tidy (publishFault img d len s) (unfencedAt 5 .call img d (publish len s) .count) (unfencedAt 5 .call img d (publish len s) .entries)) → ⊥
 unfolding allBelow anyBelow countBelow first answered shapedB freshB placesOk sessionOk copiesB coherentB entryFault publishFault publishEntries publishReply
-publish-unfenced h = false≢true (h (set (emptyImage 8 2) 3 3) (deskOf 3 oneMark (oneCopy (Sealed 1)) idleSession) 48 0 .fenced)
+publish-unfenced h = false≢true (h (set (emptyImage 8 2) 3 3) (deskOf 3 oneMark 0 (oneCopy (Sealed 1)) idleSession) 48 0 .fenced)
 
 -- ---- a set of sessions
 
@@ -1072,12 +1072,12 @@ publishes-none other = publishes-some 19 0 other refl refl
 group-unraised : GroupStores (past 20 (relisting (λ es. []))) → ⊥
 unfolding allBelow anyBelow countBelow first answered shapedB freshB placesOk sessionOk copiesB coherentB member storeFault setFault groupFault groupEntries groupReply
 group-unraised h =
-    eqb-false _ _ refl (ap length (h (set (emptyImage 8 2) 3 3) (deskOf 3 oneMark (oneCopy (Sealed 1)) idleSession) 48 1 refl .as-publish .stores))
+    eqb-false _ _ refl (ap length (h (set (emptyImage 8 2) 3 3) (deskOf 3 oneMark 0 (oneCopy (Sealed 1)) idleSession) 48 1 refl .as-publish .stores))
 
 group-unfenced : ((img : List ℕ) (d : Desk) (len set : ℕ)
     → Tidy (groupFault img d len set) (unfencedAt 20 .call img d (group len set) .count) (unfencedAt 20 .call img d (group len set) .entries)) → ⊥
 unfolding allBelow anyBelow countBelow first answered shapedB freshB placesOk sessionOk copiesB coherentB member storeFault setFault groupFault groupEntries groupReply
-group-unfenced h = false≢true (h (set (emptyImage 8 2) 3 3) (deskOf 3 oneMark (oneCopy (Sealed 1)) idleSession) 48 1 .fenced)
+group-unfenced h = false≢true (h (set (emptyImage 8 2) 3 3) (deskOf 3 oneMark 0 (oneCopy (Sealed 1)) idleSession) 48 1 .fenced)
 
 pub impostors : Impostors
 impostors =
@@ -1102,6 +1102,11 @@ impostors =
       names-lowest = names-lowest;
       names-last = names-last;
       names-newest = names-newest;
+      adds-in-front = adds-in-front;
+      keeps-finished = keeps-finished;
+      keeps-taken = keeps-taken;
+      leaves-gap = leaves-gap;
+      names-front = names-front;
       finds-home = finds-home;
       finds-last = finds-last;
       stops-early = stops-early;

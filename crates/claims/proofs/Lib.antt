@@ -41,5 +41,7 @@ pub mod Fresh
 pub mod Ceilings
 pub mod Together
 pub mod SharedEnds
+pub mod ListImpostors
 pub mod Impostors
 pub mod ReelsBack
+pub mod Listing

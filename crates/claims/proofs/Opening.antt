@@ -111,6 +111,7 @@ module _ (img : List ℕ) (len : ℕ) (o : openTold (openReply img len .answer) 
         holders-long = h .sized .holders;
         sessions-long = h .sized .sessions;
         copies-long = h .sized .copies;
+        order-long = h .sized .order;
       }
 
   -- a slot that is past the last one is empty too

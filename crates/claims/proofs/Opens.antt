@@ -4,10 +4,10 @@ use mathlib.Core.Bool.{true, false}
 use mathlib.Core.Path.{_≡_, refl, ap, _∙_}
 use mathlib.Core.List.{List}
 use native.Mathlib.Omega.{arith}
-use lib.Dec.{leb, ltb}
+use lib.Dec.{ltb}
 use lib.ListN.{length, getD, replicate, length-replicate, getD-replicate}
 use borrow.Author.Tests.{eq-eqb, le-leb, lt-ltb}
-use Rattle.layout.specs.Checks.{first, answered}
+use Rattle.layout.specs.Checks.{first}
 use Rattle.layout.specs.Image.{recordsOf, sessionsOf, ceilingOf, inRange, shapedB, occupiedB, persistAt}
 use Rattle.layout.specs.Lay.{layFault, layAnswer, laidImage, emptyImage}
 use Rattle.layout.specs.Told.{ok, layTold}
@@ -15,7 +15,7 @@ use Rattle.layout.proofs.ChecksLaws.{answered-zero}
 use Rattle.layout.proofs.Says.{says-ne, says-any, says-not}
 use Rattle.layout.proofs.Shape.{says-range, says-shaped}
 use Rattle.desk.specs.Coherent.{limit}
-use Rattle.desk.specs.Desk.{idleSession, noSession}
+use Rattle.desk.specs.Desk.{idleSession, noSession, orderAt}
 use Rattle.desk.specs.declared.state.Session.{Session}
 use Rattle.recovery.specs.Open.{openFault, opened, openReply}
 use Rattle.recovery.specs.Told.{openTold}
@@ -23,6 +23,7 @@ use Rattle.recovery.specs.declared.opening.OpenReply.{OpenReply}
 use Rattle.claims.specs.Rules.{storeRules}
 use Rattle.claims.specs.Recovering.{AllEmpty}
 use Rattle.claims.proofs.Opening.{facts, opens-clean}
+use Rattle.claims.proofs.SteadyCalls.{by-answer}
 use Rattle.claims.specs.Opens.{Fits, Opened, blank, Opens}
 
 module _ (img : List ℕ) (len : ℕ) (f : Fits img) (none : AllEmpty img) (low : ceilingOf img < limit) (room : 48 ≤ len) where
@@ -49,6 +50,7 @@ module _ (img : List ℕ) (len : ℕ) (f : Fits img) (none : AllEmpty img) (low 
         m = ap (λ (r : OpenReply). r .desk .m) reply;
         idle = λ s l. let e = getD-replicate {A = Session} 16 s idleSession noSession l in rw (reply, e) (refl, refl);
         unmarked = λ r l. rw reply (getD-replicate {A = ℕ} 256 r 0 0 l);
+        unlisted = λ j l. rw reply (getD-replicate {A = ℕ} 16 j 0 0 l);
       }
 
 -- what opens has passed the checks
@@ -61,6 +63,12 @@ only img len o =
       f .below,
       f .room,
     )
+
+-- nobody is listed, refused or not
+list-empty : (img : List ℕ) (len j : ℕ) → j < 16 → orderAt (storeRules .opens img len .desk) j ≡ 0
+unfolding openReply
+list-empty img len j l =
+    let z = getD-replicate {A = ℕ} 16 j 0 0 l in by-answer (λ (r : OpenReply). orderAt (r .desk) j ≡ 0) (openFault img len) _ _ z (λ y. z)
 
 -- zeros behind a header
 zeros : (k j : ℕ) → _≡_ {A = ℕ} (getD (replicate k 0) j 0) 0
@@ -108,6 +116,7 @@ opens-all =
     record {
       opens = opens;
       only = only;
+      refused-list = λ img len e. list-empty img len;
       lays = λ n m img a b c d size. lays n m a b c d img size;
       laid-opens = λ n m len a b c d room. laid-opens n m a b c d len room;
     }

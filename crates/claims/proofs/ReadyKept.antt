@@ -17,7 +17,7 @@ pub whole-of : (N M : ℕ) (img : List ℕ) (d : Desk) → Ready N M img d → W
 whole-of N M img d h = record { shaped = h .shaped; records = h .records; sessions = h .sessions }
 
 steady-of : (N M : ℕ) (img : List ℕ) (d : Desk) → Ready N M img d → Steady d
-steady-of N M img d h = record { coherent = h .coherent; sized = record { holders = h .holders-long; sessions = h .sessions-long; copies = h .copies-long } }
+steady-of N M img d h = record { coherent = h .coherent; sized = record { holders = h .holders-long; sessions = h .sessions-long; copies = h .copies-long; order = h .order-long } }
 
 stays : (d e : Desk) → Steady d → e ≡ d → Kept d e
 stays d e h q = rw q (record { steady = h; n-same = refl; m-same = refl })
@@ -30,23 +30,23 @@ listening-kept img d (Finish len s) h = listen-finish-kept img d len s h
 listening-kept img d (Find s k) h = stays d _ h (find-desk img d s k)
 
 -- every call keeps the desk steady
-desk-kept : (w : World) (c : Call) → Steady (w .desk) → Kept (w .desk) (reply storeRules w c .desk)
-unfolding reply
-desk-kept w (begin s) h = begin-kept (w .desk) s h
-desk-kept w (read s r) h = stays (w .desk) _ h (read-desk (w .image) (w .desk) s r)
-desk-kept w (write s r ws) h = write-kept (w .image) (w .desk) s r ws h
-desk-kept w (abandon s) h = abandon-kept (w .desk) s h
-desk-kept w (finish len s) h = finish-kept (w .image) (w .desk) len s h
-desk-kept w (publish len s) h = publish-kept (w .image) (w .desk) len s h
-desk-kept w (group len set) h = group-kept (w .image) (w .desk) len set h
-desk-kept w (settle len s) h = settle-kept (w .image) (w .desk) len s h
-desk-kept w (reclaim len s) h = stays (w .desk) _ h (reclaim-desk (w .image) (w .desk) len s)
-desk-kept w (listen c) h = listening-kept (w .image) (w .desk) c h
+pub call-kept : (img : List ℕ) (d : Desk) (c : Call) → Steady d → Kept d (storeRules .call img d c .desk)
+call-kept img d (begin s) h = begin-kept d s h
+call-kept img d (read s r) h = stays d _ h (read-desk img d s r)
+call-kept img d (write s r ws) h = write-kept img d s r ws h
+call-kept img d (abandon s) h = abandon-kept d s h
+call-kept img d (finish len s) h = finish-kept img d len s h
+call-kept img d (publish len s) h = publish-kept img d len s h
+call-kept img d (group len set) h = group-kept img d len set h
+call-kept img d (settle len s) h = settle-kept img d len s h
+call-kept img d (reclaim len s) h = stays d _ h (reclaim-desk img d len s)
+call-kept img d (listen c) h = listening-kept img d c h
 
 pub ready-kept : (N M : ℕ) (w : World) (c : Call) (img′ : List ℕ) → Ready N M (w .image) (w .desk) → Whole N M img′ → reply storeRules w c .desk .clock ≤ ceilingOf img′
     → Ready N M img′ (reply storeRules w c .desk)
+unfolding reply
 ready-kept N M w c img′ h g u =
-    let k = desk-kept w c (steady-of N M (w .image) (w .desk) h) in
+    let k = call-kept (w .image) (w .desk) c (steady-of N M (w .image) (w .desk) h) in
     record {
       shaped = g .shaped;
       records = g .records;
@@ -58,4 +58,5 @@ ready-kept N M w c img′ h g u =
       holders-long = k .steady .sized .holders;
       sessions-long = k .steady .sized .sessions;
       copies-long = k .steady .sized .copies;
+      order-long = k .steady .sized .order;
     }

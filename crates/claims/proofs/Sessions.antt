@@ -6,10 +6,10 @@ use mathlib.Core.Path.{_≡_, refl, sym, _∙_, subst}
 use mathlib.Core.Logic.{inl, inr, _↔_}
 use native.Mathlib.Nat.{not-suc-le-zero}
 use native.Mathlib.Omega.{arith}
-use lib.Dec.{ltb, eqb}
+use lib.Dec.{ltb}
 use lib.ListN.{getD, set, length, getD-replicate}
 use lib.Seq.{getD-set-same, getD-set-other}
-use borrow.Author.Tests.{ltb-true, ltb-false, eqb-true, eqb-false}
+use borrow.Author.Tests.{ltb-true, ltb-false}
 use Rattle.layout.specs.Below.{lowest}
 use Rattle.layout.proofs.Says.{says-lt, says-eq, says-and, by-test}
 use Rattle.layout.specs.Homes.{Differ}
@@ -19,12 +19,9 @@ use Rattle.desk.specs.declared.state.Phase.{Phase}
 use Rattle.desk.specs.declared.state.Phase.the-variants.{Idle, Active, Sealed, Published}
 use Rattle.desk.specs.declared.state.RecordCopy.{RecordCopy}
 use Rattle.desk.specs.declared.state.Session.{Session}
+use Rattle.desk.proofs.Counts.{by-same}
 use Rattle.desk.proofs.Facts.{CountIn, NumberIn, PlaceIn, SessionIn, Copies}
 use Rattle.snapshot.specs.Own.{ownPlace}
-
--- two numbers are equal, or not
-pub by-same : {P : Type 0} (i j : ℕ) → (i ≡ j → P) → ((i ≡ j → ⊥) → P) → P
-by-same i j f g = by-test (eqb i j) (λ y. f (eqb-true i j y)) (λ y. g (eqb-false i j y))
 
 -- what holds of a at place i, and of every other element, holds of every element once a is stored there
 pub at-set : {A : Type 0} (l : List A) (i : ℕ) (a z : A) → i < length l → (P : ℕ → A → Type 0) → P i a → ((t : ℕ) → (t ≡ i → ⊥) → P t (getD l t z)) → (t : ℕ) → P t (getD (set l i a) t z)

@@ -9,7 +9,7 @@ use lib.Dec.{leb}
 use borrow.Author.Tests.{leb-false}
 use Rattle.layout.specs.Image.{ceilingOf}
 use Rattle.layout.specs.Checks.{unless, first, answered}
-use Rattle.desk.specs.Desk.{sessionAt, isIdle, isActive, withPhase}
+use Rattle.desk.specs.Desk.{sessionAt, isIdle, isActive, withPhase, joined}
 use Rattle.desk.specs.Begin.{beginFault, beginRefused, begun, beginReply}
 use Rattle.desk.specs.Abandon.{abandonFault, abandonRefused, abandoned, abandonReply}
 use Rattle.desk.specs.declared.state.Phase.{Phase}
@@ -58,7 +58,7 @@ module _ (N M : ℕ) (img : List ℕ) (d : Desk) (s : ℕ) (f : ℕ → ℕ) (k 
           (cond over (refuse 4) (begins (d .clock) (txn-of p (e .slot) (copiesOf e))))
       go true b p i = told (begin s) f d (refusal 4) refl
       go false b Idle i =
-          entered (begin s) f d (start (d .clock)) s (withPhase e (Active (d .clock))) (d .holders) _ (session-there N M img d h s (b refl))
+          entered (begin s) f d (start (d .clock)) s (withPhase e (Active (d .clock))) (d .holders) (joined d s) _ (session-there N M img d h s (b refl))
           (idle-empty (d .clock) (d .n) e (h .coherent .session s (session-small N M img d h s (b refl))) i (d .clock))
           refl
       go false b (Active n) i = told (begin s) f d (refusal 6) refl

@@ -9,14 +9,14 @@ use borrow.Author.Tests.{leb-false, ltb-true, ltb-false, ne-eqb}
 use Rattle.layout.specs.Checks.{unless, first, answered}
 use Rattle.layout.specs.Image.{homeWords, ceilingOf}
 use Rattle.layout.proofs.Says.{by-test}
-use Rattle.desk.specs.Desk.{sessionAt, markAt, copyAt, isActive}
+use Rattle.desk.specs.Desk.{sessionAt, markAt, copyAt, isActive, startOf}
 use Rattle.desk.specs.declared.state.Phase.{Phase}
 use Rattle.desk.specs.declared.state.Phase.the-variants.{Idle, Active, Sealed, Published}
 use Rattle.desk.specs.declared.state.Session.{Session}
 use Rattle.desk.specs.declared.state.Desk.{Desk}
 use Rattle.desk.proofs.Facts.{Copies}
 use Rattle.snapshot.specs.Own.{ownPlace}
-use Rattle.snapshot.specs.Read.{readFault, startOf, shownAt, holderEntry, readGives, readRefused, readDone, readReply}
+use Rattle.snapshot.specs.Read.{readFault, shownAt, holderEntry, readGives, readRefused, readDone, readReply}
 use Rattle.snapshot.specs.declared.reading.ReadReply.{ReadReply}
 use Rattle.snapshot.specs.declared.reading.ReadAnswer.the-variants.{Copy, Home}
 use Rattle.snapshot.proofs.OwnPlace.{own-found}

@@ -118,7 +118,7 @@ module _ (N M : ℕ) (img : List ℕ) (d : Desk) (s r : ℕ) (ws : List ℕ) (k 
     -- the own copy is overwritten
     overwrites : ownPlace e r < 4 → Sim (write s r ws) f d ok [] (putSession d s (overwritten e r ws)) (say ok)
     overwrites o =
-        entered (write s r ws) f d ok s (overwritten e r ws) (d .holders) _ there
+        entered (write s r ws) f d ok s (overwritten e r ws) (d .holders) (d .order) _ there
         (rw (i, front-set r (e .count) (ownPlace e r) ws (e .copies) (own-first e r four o))) (noted (e .slot) (kept (copiesOf e) (find-own e r four o)))
       where
         kept : {old : List ℕ} (cs : List Copy) → find r cs ≡ some old → slotNow s f (e .slot) cs ≡ e .slot
@@ -129,7 +129,7 @@ module _ (N M : ℕ) (img : List ℕ) (d : Desk) (s r : ℕ) (ws : List ℕ) (k 
     copies : (q : ℕ) → reserved (e .count) free (e .slot) ≡ q → slotNow s f (e .slot) (copiesOf e) ≡ q → e .count < 4 → Fresh r (copiesOf e)
         → Sim (write s r ws) f d ok [] (copied img d s r ws) (say ok)
     copies q u n c z =
-        entered (write s r ws) f d ok s (extended e r ws (reserved (e .count) free (e .slot))) (set (d .holders) r (s + 1)) _ there
+        entered (write s r ws) f d ok s (extended e r ws (reserved (e .count) free (e .slot))) (set (d .holders) r (s + 1)) (d .order) _ there
         (rw (u, i, add-one, front-put r (e .count) ws (e .copies) (omega (arith, four)) z)) (noted q n)
 
     -- a record that is free is copied, where there is room

@@ -37,6 +37,7 @@ pub record Ready (N M : ℕ) (img : List ℕ) (d : Desk) : Type 0 where
   pub holders-long : length (d .holders) ≡ 256
   pub sessions-long : length (d .sessions) ≡ 16
   pub copies-long : (s : ℕ) → s < 16 → length (sessionAt d s .copies) ≡ 4
+  pub order-long : length (d .order) ≡ 16
 
 -- there the checks 1 and 2 pass
 pub ready-fault : (N M : ℕ) (img : List ℕ) (d : Desk) (room : Bool) (s : ℕ) → Ready N M img d → imageFault img d room s ≡ first (unless room 3) (unless (ltb s (d .m)) 4)

@@ -1,14 +1,14 @@
 -- A steady desk is coherent and has its arrays at their lengths. A change of one session keeps it so: another phase, a copy, or its marks and copies
 -- dropped.
 use Prim.Native.Nat.{ℕ, zero, suc, _+_, _<_, _≤_}
-use mathlib.Core.Bool.{Bool, true, _||_, cond}
+use mathlib.Core.Bool.{Bool, true, false, _||_}
 use mathlib.Core.List.{List}
-use mathlib.Core.Path.{_≡_, refl, sym, ap, _∙_}
+use mathlib.Core.Path.{_≡_, refl, sym, ap, _∙_, subst, fun-ext}
 use mathlib.Core.Logic.{_⊎_, inl, inr, _↔_, Iff·rfl, Iff·trans}
 use native.Mathlib.Nat.{not-suc-le-zero}
 use native.Mathlib.Omega.{arith}
 use lib.Dec.{leb, ltb, eqb}
-use lib.ListN.{getD, set, length, length-set}
+use lib.ListN.{getD, set, length, length-set, List·getD-eq-default}
 use lib.Seq.{getD-set-same, getD-set-other, set-getD}
 use borrow.Author.Tests.{eqb-true}
 use Rattle.layout.specs.Below.{countBelow}
@@ -16,24 +16,23 @@ use Rattle.layout.proofs.BelowLaws.{count-most}
 use Rattle.layout.specs.Checks.{unless}
 use Rattle.layout.proofs.ChecksLaws.{first-both, unless-zero}
 use Rattle.layout.proofs.Says.{says-lt, says-le, says-or, by-test, by-case}
-use Rattle.desk.specs.Desk.{noCopy, noSession, sessionAt, markAt, isIdle, isActive, isSealed, idleSession, withPhase, changed, putSession, unmarked, dropped}
+use Rattle.desk.specs.Desk.{noCopy, noSession, sessionAt, markAt, isIdle, isActive, isSealed, startOf, startAt, activeAt, activeCount, idleSession, withPhase, changed, putSession, joined, without, unmarked, restMarks}
 use Rattle.desk.specs.Coherent.{limit, sealedAt}
 use Rattle.desk.specs.declared.state.Phase.{Phase}
+use Rattle.desk.specs.declared.state.Phase.the-variants.{Idle, Active, Sealed, Published}
 use Rattle.desk.specs.declared.state.RecordCopy.{RecordCopy}
 use Rattle.desk.specs.declared.state.Session.{Session}
 use Rattle.desk.specs.declared.state.Desk.{Desk}
+use Rattle.desk.proofs.Counts.{by-same, adds, count-changed, count-less}
 use Rattle.desk.proofs.Facts.{CountIn, NumberIn, SessionIn, Copies, MarkIs, Coherent}
+use Rattle.desk.proofs.Order.{InOrder, all-listed, joins, leaves}
+use Rattle.desk.proofs.Without.{length-without, without-at}
 use Rattle.desk.proofs.Copied.{copies-four, copies-differ}
 use Rattle.snapshot.specs.Own.{ownPlace}
 use Rattle.snapshot.specs.Write.{emptySlot, copyFault, overwritten, reserved, copied}
 use Rattle.snapshot.proofs.WriteLaws.{copy-room}
-use Rattle.claims.proofs.Sessions.{by-same, at-set, phase-in, session-later, idle-in, idle-none, written, Room, own-room, next-room, written-new, written-old, written-in}
-
--- the arrays have their lengths
-pub record Sized (d : Desk) : Type 0 where
-  pub holders : length (d .holders) ≡ 256
-  pub sessions : length (d .sessions) ≡ 16
-  pub copies : (s : ℕ) → s < 16 → length (sessionAt d s .copies) ≡ 4
+use Rattle.claims.specs.Listing.{Sized}
+use Rattle.claims.proofs.Sessions.{at-set, phase-in, session-later, idle-in, idle-none, written, Room, own-room, next-room, written-new, written-old, written-in}
 
 pub record Steady (d : Desk) : Type 0 where
   pub coherent : Coherent d
@@ -45,40 +44,35 @@ pub record Kept (d d′ : Desk) : Type 0 where
   pub n-same : d′ .n ≡ d .n
   pub m-same : d′ .m ≡ d .m
 
--- counts of tests that agree
-count-same : (p q : ℕ → Bool) (n : ℕ) → ((t : ℕ) → t < n → p t ≡ q t) → countBelow n p ≡ countBelow n q
-unfolding countBelow
-count-same p q zero same = refl
-count-same p q (suc n) same = rw (count-same p q n (λ t l. same t (omega arith)), same n (omega arith))
+-- the order depends on which sessions are active, and on their starts
+pub order-same : {act act′ : ℕ → Bool} {start start′ o : ℕ → ℕ} → ((t : ℕ) → act t ≡ act′ t) → ((t : ℕ) → start t ≡ start′ t)
+    → InOrder act start o → InOrder act′ start′ o
+order-same {act} {act′} {start} {start′} {o} a b h =
+    subst (λ (g : ℕ → ℕ). InOrder act′ g o) (fun-ext b) (subst (λ (g : ℕ → Bool). InOrder g start o) (fun-ext a) h)
 
--- what a test adds to a count
-abbrev pub adds : Bool → ℕ
-adds b = cond b 1 0
-
--- counts of tests that agree but for i
-pub count-changed : (p q : ℕ → Bool) (i : ℕ) → ((t : ℕ) → (t ≡ i → ⊥) → p t ≡ q t) → (n : ℕ) → i < n → countBelow n p + adds (q i) ≡ countBelow n q + adds (p i)
-unfolding countBelow
-count-changed p q i same zero l = absurd (not-suc-le-zero l)
-count-changed p q i same (suc n) l =
-    by-same i n
-    (λ z. let c = count-same p q n (λ t u. same t (λ y. omega arith)) in
-    let a = ap (λ (t : ℕ). adds (p t)) z in
-    let b = ap (λ (t : ℕ). adds (q t)) z in
-    omega arith)
-    (λ ne. let c = count-changed p q i same n (omega arith) in
-    let a = ap adds (same n (λ z. ne (sym z))) in
-    omega arith)
+-- the list of active sessions, with the entry e for session s
+pub record Order (d : Desk) (s : ℕ) (e : Session) (order : List ℕ) : Type 0 where
+  pub long : length order ≡ 16
+  pub holds : InOrder (activeAt (changed d s e (d .clock) (d .holders) order)) (startAt (changed d s e (d .clock) (d .holders) order)) (λ j. getD order j 0)
 
 -- what is asked of such a change: the clock is not set back, and with the number of sealed sessions does not pass its limit; the entry is in order;
--- the marks of session s are those of its copies, and the marks of the others are as they were
-record Change (d : Desk) (s : ℕ) (e : Session) (clock : ℕ) (holders : List ℕ) : Type 0 where
+-- the marks of session s are those of its copies, and the marks of the others are as they were; the active sessions are in order
+record Change (d : Desk) (s : ℕ) (e : Session) (clock : ℕ) (holders order : List ℕ) : Type 0 where
   later : d .clock ≤ clock
   high : (clock + adds (isSealed (e .phase)) ≤ d .clock + adds (sealedAt d s)) ⊎ (clock ≤ limit)
   session : SessionIn clock (d .n) e
   four : length (e .copies) ≡ 4
   long : length holders ≡ 256
+  ordered : Order d s e order
   mine : (k : ℕ) → k < 256 → getD holders k 0 ≡ s + 1 ↔ Copies e k
   others : (k : ℕ) → k < 256 → (t : ℕ) → (t ≡ s → ⊥) → getD holders k 0 ≡ t + 1 ↔ markAt d k ≡ t + 1
+
+-- the start of a session is at most the clock
+active-most : (p : Phase) (clock : ℕ) → NumberIn p clock → startOf p ≤ clock
+active-most Idle clock n = omega arith
+active-most (Active b) clock n = n .1
+active-most (Sealed q) clock n = omega arith
+active-most (Published q) clock n = omega arith
 
 -- marks taken away leave the array as long as it was
 length-unmarked : (h : List ℕ) (cs : List RecordCopy) (c : ℕ) → length (unmarked h cs c) ≡ length h
@@ -137,19 +131,75 @@ module _ (d : Desk) (s : ℕ) (h : Steady d) (low : s < d .m) where
   marked : (k : ℕ) → k < 256 → markAt d k ≡ s + 1 ↔ Copies (sessionAt d s) k
   marked k l = h .coherent .marks k l .0 .1 s small
 
-  module _ (e : Session) (clock : ℕ) (holders : List ℕ) (c : Change d s e clock holders) where
-    -- what holds of the new entry and of the others holds of each session
-    each : (P : ℕ → Session → Type 0) → P s e → ((t : ℕ) → (t ≡ s → ⊥) → P t (sessionAt d t)) → (t : ℕ) → P t (sessionAt (changed d s e clock holders) t)
-    each = at-set (d .sessions) s e noSession stored
+  -- what holds of the new entry and of the others holds of each session
+  put-each : (e : Session) (P : ℕ → Session → Type 0) → P s e → ((t : ℕ) → (t ≡ s → ⊥) → P t (sessionAt d t)) → (t : ℕ) → P t (getD (set (d .sessions) s e) t noSession)
+  put-each e = at-set (d .sessions) s e noSession stored
+
+  -- the entry put there, and the others
+  put-here : (e : Session) → getD (set (d .sessions) s e) s noSession ≡ e
+  put-here e = getD-set-same (d .sessions) s e noSession stored
+
+  put-there : (e : Session) (t : ℕ) → (t ≡ s → ⊥) → getD (set (d .sessions) s e) t noSession ≡ sessionAt d t
+  put-there e t ne = getD-set-other (d .sessions) s t e noSession ne
+
+  -- a session that stays active, or inactive, stays where it is in the list
+  pub same-order : (e : Session) → isActive (e .phase) ≡ activeAt d s → startOf (e .phase) ≡ startAt d s → Order d s e (d .order)
+  same-order e a b =
+      record {
+        long = h .sized .order;
+        holds =
+            order-same (put-each e (λ t f. activeAt d t ≡ isActive (f .phase)) (sym a) (λ t ne. refl))
+            (put-each e (λ t f. startAt d t ≡ startOf (f .phase)) (sym b) (λ t ne. refl)) (h .coherent .order);
+      }
+
+  -- a session that begins at the clock is put behind the active ones
+  pub begin-order : (e : Session) → activeAt d s ≡ false → isActive (e .phase) ≡ true → startOf (e .phase) ≡ d .clock → Order d s e (joined d s)
+  begin-order e was is start =
+      let room = count-less (activeAt d) 16 s small was in
+      record {
+        long = length-set (d .order) (activeCount d) s ∙ h .sized .order;
+        holds =
+            joins (h .coherent .order) s small
+            (λ t ne. ap (λ (f : Session). isActive (f .phase)) (put-there e t ne))
+            (λ t ne. ap (λ (f : Session). startOf (f .phase)) (put-there e t ne))
+            was
+            (ap (λ (f : Session). isActive (f .phase)) (put-here e) ∙ is)
+            (λ t l a. let b = ap (λ (f : Session). startOf (f .phase)) (put-here e) in
+            omega (arith, active-most (sessionAt d t .phase) (d .clock) (h .coherent .session t l .number), start))
+            (getD-set-same (d .order) (activeCount d) s 0 (omega (arith, h .sized .order)))
+            (λ j ne. getD-set-other (d .order) (activeCount d) j s 0 ne);
+      }
+
+  -- an active session that ends is taken out
+  pub end-order : (e : Session) → activeAt d s ≡ true → isActive (e .phase) ≡ false → Order d s e (without s (d .order))
+  end-order e was is =
+      let p = all-listed (h .coherent .order) s small was in
+      record {
+        long = length-without s (d .order) ∙ h .sized .order;
+        holds =
+            leaves (h .coherent .order) s small
+            (λ t ne. ap (λ (f : Session). isActive (f .phase)) (put-there e t ne))
+            (λ t ne. ap (λ (f : Session). startOf (f .phase)) (put-there e t ne))
+            was
+            (ap (λ (f : Session). isActive (f .phase)) (put-here e) ∙ is)
+            (p .0) (p .1) (p .2)
+            (List·getD-eq-default (d .order) 0 (omega (arith, h .sized .order)))
+            (λ j l. without-at s (d .order) (p .0) (omega (arith, p .1, count-most (activeAt d) 16, h .sized .order)) (p .2)
+            (λ i k q. h .coherent .order .used (p .0) (p .1) .1 i k .0 (q ∙ sym (p .2))) j);
+      }
+
+  module _ (e : Session) (clock : ℕ) (holders order : List ℕ) (c : Change d s e clock holders order) where
+    each : (P : ℕ → Session → Type 0) → P s e → ((t : ℕ) → (t ≡ s → ⊥) → P t (sessionAt d t)) → (t : ℕ) → P t (sessionAt (changed d s e clock holders order) t)
+    each = put-each e
 
     -- the clock with the number of sealed sessions stays within its limit
-    clock-high : clock + countBelow 16 (sealedAt (changed d s e clock holders)) ≤ limit + 16
+    clock-high : clock + countBelow 16 (sealedAt (changed d s e clock holders order)) ≤ limit + 16
     clock-high =
         by-case (c .high)
-        (λ l. let k = count-changed (sealedAt (changed d s e clock holders)) (sealedAt d) s (each (λ t f. (t ≡ s → ⊥) → isSealed (f .phase) ≡ sealedAt d t) (λ ne. absurd (ne refl)) (λ t ne z. refl)) 16 small in
+        (λ l. let k = count-changed (sealedAt (changed d s e clock holders order)) (sealedAt d) s (each (λ t f. (t ≡ s → ⊥) → isSealed (f .phase) ≡ sealedAt d t) (λ ne. absurd (ne refl)) (λ t ne z. refl)) 16 small in
         let a = ap (λ (f : Session). adds (isSealed (f .phase))) (getD-set-same (d .sessions) s e noSession stored) in
         omega (arith, h .coherent .clock-high))
-        (λ l. omega (arith, count-most (sealedAt (changed d s e clock holders)) 16))
+        (λ l. omega (arith, count-most (sealedAt (changed d s e clock holders order)) 16))
 
     -- a mark names a session, and is none from N up
     mark-in : (k : ℕ) → k < 256 → (v : ℕ) → getD holders k 0 ≡ v → (v ≤ 16) × ((k < d .n) ⊎ (v ≡ 0))
@@ -163,7 +213,7 @@ module _ (d : Desk) (s : ℕ) (h : Steady d) (low : s < d .m) where
         (omega (arith, m .0 .0), by-case (m .1) inl (λ z. absurd (omega arith))))
 
     -- and it is that of the session that copies its record
-    mark-is : (k : ℕ) → k < 256 → MarkIs (changed d s e clock holders) k
+    mark-is : (k : ℕ) → k < 256 → MarkIs (changed d s e clock holders order) k
     mark-is k l =
         let w = mark-in k l (getD holders k 0) refl in
         let copied-by =
@@ -173,7 +223,7 @@ module _ (d : Desk) (s : ℕ) (h : Steady d) (low : s < d .m) where
         ((w .0, copied-by), w .1)
 
     -- the changed desk is steady
-    change-kept : Kept d (changed d s e clock holders)
+    change-kept : Kept d (changed d s e clock holders order)
     change-kept =
         record {
           steady =
@@ -189,12 +239,14 @@ module _ (d : Desk) (s : ℕ) (h : Steady d) (low : s < d .m) where
                       session = each (λ t f. t < 16 → SessionIn clock (d .n) f) (λ l. c .session) (λ t ne l. session-later clock (c .later) (h .coherent .session t l));
                       idle = each (λ t f. t < 16 → (t < d .m) ⊎ (isIdle (f .phase) ≡ true)) (λ l. inl low) (λ t ne. h .coherent .idle t);
                       marks = mark-is;
+                      order = c .ordered .holds;
                     };
                 sized =
                     record {
                       holders = c .long;
                       sessions = length-set (d .sessions) s e ∙ h .sized .sessions;
                       copies = each (λ t f. t < 16 → length (f .copies) ≡ 4) (λ l. c .four) (λ t ne. h .sized .copies t);
+                      order = c .ordered .long;
                     };
               };
           n-same = refl;
@@ -203,22 +255,23 @@ module _ (d : Desk) (s : ℕ) (h : Steady d) (low : s < d .m) where
 
   -- another phase
   pub phase-kept : (p : Phase) (clock : ℕ) → d .clock ≤ clock → (clock + adds (isSealed p) ≤ d .clock + adds (sealedAt d s)) ⊎ (clock ≤ limit) → CountIn p (sessionAt d s .count) → NumberIn p clock
-      → Kept d (changed d s (withPhase (sessionAt d s) p) clock (d .holders))
-  phase-kept p clock later high count number =
-      change-kept (withPhase (sessionAt d s) p) clock (d .holders)
+      → (order : List ℕ) → Order d s (withPhase (sessionAt d s) p) order → Kept d (changed d s (withPhase (sessionAt d s) p) clock (d .holders) order)
+  phase-kept p clock later high count number order ordered-by =
+      change-kept (withPhase (sessionAt d s) p) clock (d .holders) order
       (record {
         later = later;
         high = high;
         session = phase-in p clock ordered count number;
         four = four-places;
         long = h .sized .holders;
+        ordered = ordered-by;
         mine = marked;
         others = λ k l t ne. Iff·rfl;
       })
 
   -- the marks without those of session s
   abbrev rest : List ℕ
-  rest = unmarked (d .holders) (sessionAt d s .copies) (sessionAt d s .count)
+  rest = restMarks d s
 
   -- a mark was for session s and is taken away, or was not and is left
   rest-at : (k : ℕ) → k < 256 → ((getD rest k 0 ≡ 0) × (markAt d k ≡ s + 1)) ⊎ ((getD rest k 0 ≡ markAt d k) × (markAt d k ≡ s + 1 → ⊥))
@@ -228,30 +281,32 @@ module _ (d : Desk) (s : ℕ) (h : Steady d) (low : s < d .m) where
       (λ w. inr (w .0, λ z. let q = marked k l .0 z in w .1 (q .0) (q .2 .0) (q .2 .1)))
 
   -- marks and copies dropped
-  pub drop-kept : Kept d (dropped d s)
-  drop-kept =
-      change-kept idleSession (d .clock) rest
+  pub drop-kept : (order : List ℕ) → Order d s idleSession order → Kept d (changed d s idleSession (d .clock) rest order)
+  drop-kept order ordered-by =
+      change-kept idleSession (d .clock) rest order
       (record {
         later = omega arith;
         high = inl (omega arith);
         session = idle-in (d .clock) (d .n);
         four = refl;
         long = length-unmarked (d .holders) (sessionAt d s .copies) (sessionAt d s .count) ∙ h .sized .holders;
+        ordered = ordered-by;
         mine = λ k l. (λ z. by-case (rest-at k l) (λ w. absurd (omega arith)) (λ w. absurd (w .1 (sym (w .0) ∙ z))), λ q. absurd (idle-none k q));
         others = λ k l t ne. by-case (rest-at k l) (λ w. (λ z. absurd (omega arith), λ z. absurd (ne (omega arith)))) (λ w. rw (w .0) Iff·rfl);
       })
 
   -- a copy of record r, which no other session has marked
   written-kept : (r : ℕ) (words : List ℕ) (j k slot : ℕ) → r < d .n → isActive (sessionAt d s .phase) ≡ true → Room (sessionAt d s) r j k → slot ≤ 1 → (markAt d r ≡ 0) ⊎ (markAt d r ≡ s + 1)
-      → Kept d (changed d s (written (sessionAt d s) r words j k slot) (d .clock) (set (d .holders) r (s + 1)))
+      → Kept d (changed d s (written (sessionAt d s) r words j k slot) (d .clock) (set (d .holders) r (s + 1)) (d .order))
   written-kept r words j k slot below active room slot-small free =
-      change-kept (written (sessionAt d s) r words j k slot) (d .clock) (set (d .holders) r (s + 1))
+      change-kept (written (sessionAt d s) r words j k slot) (d .clock) (set (d .holders) r (s + 1)) (d .order)
       (record {
         later = omega arith;
         high = inl (omega arith);
         session = written-in (sessionAt d s) r words j k slot room active below slot-small ordered;
         four = simp length-set four-places;
         long = simp length-set (h .sized .holders);
+        ordered = same-order (written (sessionAt d s) r words j k slot) refl refl;
         mine =
             each-mark (λ q v. q < 256 → v ≡ s + 1 ↔ Copies (written (sessionAt d s) r words j k slot) q)
             (λ l. (λ z. written-new (sessionAt d s) r words j k slot room, λ z. refl))

@@ -11,18 +11,19 @@ use Rattle.layout.specs.Below.{countBelow}
 use Rattle.layout.proofs.ChecksLaws.{first-both}
 use Rattle.layout.proofs.Says.{by-test}
 use Rattle.desk.specs.Coherent.{sealedAt}
-use Rattle.desk.specs.Desk.{sessionAt, markAt, isIdle, isSealed, withPhase}
+use Rattle.desk.specs.Desk.{sessionAt, markAt, isIdle, isActive, isSealed, startOf, startAt, activeAt, withPhase}
 use Rattle.desk.specs.Group.{member, storeFault, groupFault, grouped, groupReply}
 use Rattle.desk.specs.Publish.{publishRefused}
 use Rattle.desk.specs.declared.state.Phase.the-variants.{Published}
 use Rattle.desk.specs.declared.state.Session.{Session}
 use Rattle.desk.specs.declared.state.Desk.{Desk}
+use Rattle.desk.proofs.Counts.{by-same}
 use Rattle.desk.proofs.Copied.{copies-four, copies-some}
 use Rattle.desk.proofs.Facts.{Coherent, SessionIn, Copies, MarkIs}
 use Rattle.desk.proofs.GroupDesk.{Loaded, loaded, published-long, grouped-at}
-use Rattle.claims.proofs.Sessions.{by-same, phase-in, session-later}
-use Rattle.claims.proofs.Steady.{Steady, Kept}
-use Rattle.claims.proofs.SteadyCalls.{by-answer, unchanged}
+use Rattle.claims.proofs.Sessions.{phase-in, session-later}
+use Rattle.claims.proofs.Steady.{Steady, Kept, order-same}
+use Rattle.claims.proofs.SteadyCalls.{by-answer, sealed-inactive, unchanged}
 
 -- ---- counts
 
@@ -84,6 +85,13 @@ module _ (img : List ℕ) (d : Desk) (set : ℕ) (h : Coherent d) (r : Loaded d 
     h .marks k l .1,
   )
 
+  -- a member was not active, and is not
+  active-same : (t : ℕ) → activeAt d t ≡ activeAt a t
+  active-same t = same (λ u x. activeAt d u ≡ isActive (x .phase)) t (λ y. sealed-inactive (sessionAt d t .phase) (r .sealed t y) .0) (λ y. refl)
+
+  start-same : (t : ℕ) → startAt d t ≡ startAt a t
+  start-same t = same (λ u x. startAt d u ≡ startOf (x .phase)) t (λ y. sealed-inactive (sessionAt d t .phase) (r .sealed t y) .1) (λ y. refl)
+
   pub grouped-coherent : Coherent a
   grouped-coherent =
       record {
@@ -96,6 +104,7 @@ module _ (img : List ℕ) (d : Desk) (set : ℕ) (h : Coherent d) (r : Loaded d 
         session = session-in;
         idle = λ s l. same (λ u x. u < 16 → (u < d .m) ⊎ (isIdle (x .phase) ≡ true)) s (λ y v. inl (r .low s y)) (λ y v. h .idle s v) l;
         marks = marks-are;
+        order = order-same active-same start-same (h .order);
       }
 
 grouped-kept : (img : List ℕ) (d : Desk) (set : ℕ) → Steady d → Loaded d set → Kept d (grouped img d set .desk)
@@ -110,6 +119,7 @@ grouped-kept img d set h r =
                   sessions = published-long (d .sessions) set (d .clock + 1) 16 ∙ h .sized .sessions;
                   copies = λ s l.
                       same img d set (h .coherent) r (λ u x. u < 16 → length (x .copies) ≡ 4) s (λ y v. h .sized .copies s v) (λ y v. h .sized .copies s v) l;
+                  order = h .sized .order;
                 };
           };
       n-same = refl;

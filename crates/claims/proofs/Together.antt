@@ -125,6 +125,7 @@ group-stores img d len set e = go (groupFault img d len set) refl e
           members = λ s y. grouped-at img d set r s ∙ rw y refl;
           others = λ s n. grouped-at img d set r s ∙ rw n refl;
           marks = refl;
+          list = refl;
           n-same = refl;
           m-same = refl;
           apart = members-apart img d len set z;

@@ -62,7 +62,7 @@ opening img len = openTold (openReply img len .answer)
 
 -- session 0 has sealed one copy
 abbrev pub sealedDesk : ℕ → Desk
-sealedDesk clock = deskOf clock oneMark (oneCopy (Sealed 1)) idleSession
+sealedDesk clock = deskOf clock oneMark 0 (oneCopy (Sealed 1)) idleSession
 
 -- what publish stores of it at this clock, with word 3 at w
 abbrev pub publishStores : ℕ → ℕ → List Entry

@@ -52,15 +52,16 @@ fourCopies = record { phase = Active 1; count = 4; slot = 0; copies = copyOf 0 �
 abbrev pub noCopies : Phase → Session
 noCopies p = record { phase = p; count = 0; slot = 0; copies = replicate 4 zeroCopy }
 
--- a desk with two sessions, of which the first holds the records that `marks` says
-abbrev pub deskOf : ℕ → List ℕ → Session → Session → Desk
-deskOf clock marks x y =
+-- a desk with two sessions, of which the first holds the records that `marks` says, and at most one, `active`, is active
+abbrev pub deskOf : ℕ → List ℕ → ℕ → Session → Session → Desk
+deskOf clock marks active x y =
     record {
       clock = clock;
       n = 8;
       m = 2;
       holders = marks ++ replicate 252 0;
       sessions = x ∷ y ∷ replicate 14 idleSession;
+      order = active ∷ replicate 15 0;
     }
 
 abbrev pub oneMark : List ℕ
@@ -71,11 +72,11 @@ fourMarks = 1 ∷ 1 ∷ 1 ∷ 1 ∷ []
 
 -- a reader with this start, of record 0, which session 0 has published with this end
 abbrev pub readAt : ℕ → ℕ → ReadReply
-readAt start end = readReply image (deskOf 6 oneMark (oneCopy (Published end)) (noCopies (Active start))) 1 0
+readAt start end = readReply image (deskOf 6 oneMark 1 (oneCopy (Published end)) (noCopies (Active start))) 1 0
 
 -- session 0 finishes one copy at this clock, and power fails once the first k entries have arrived
 abbrev pub finishing : ℕ → Desk
-finishing clock = deskOf clock oneMark (oneCopy (Active 1)) idleSession
+finishing clock = deskOf clock oneMark 0 (oneCopy (Active 1)) idleSession
 
 abbrev pub cutAfter : ℕ → List ℕ
 cutAfter k = crashed k (λ n. true) (finishEntries image (finishing 3) 48 0) image
@@ -90,7 +91,7 @@ oneWord p =
     record { phase = p; count = 1; slot = 0; copies = record { rec = 0; words = 0 ∷ 6 ∷ 0 ∷ 0 ∷ [] } ∷ zeroCopy ∷ zeroCopy ∷ zeroCopy ∷ [] }
 
 abbrev pub editing : Desk
-editing = deskOf 3 oneMark (oneWord (Active 1)) idleSession
+editing = deskOf 3 oneMark 0 (oneWord (Active 1)) idleSession
 
 abbrev pub cutShort : ℕ → List ℕ
 cutShort k = crashed k (λ n. true) (finishEntries image editing 48 0) image
@@ -109,8 +110,8 @@ pub record Edges : Type 0 where
   pub d-answer : readAt 5 6 .answer ≡ Home
   pub d-words : readAt 5 6 .words ≡ replicate 4 0
   -- E: four copies, write to a fifth record: 8; F: write again to one of the four: accepted
-  pub e : writeTold (writeReply image (deskOf 1 fourMarks fourCopies idleSession) 0 4 (replicate 4 1) .answer) ≡ refusal 8
-  pub f : writeReply image (deskOf 1 fourMarks fourCopies idleSession) 0 3 (replicate 4 1) .answer ≡ Ok
+  pub e : writeTold (writeReply image (deskOf 1 fourMarks 0 fourCopies idleSession) 0 4 (replicate 4 1) .answer) ≡ refusal 8
+  pub f : writeReply image (deskOf 1 fourMarks 0 fourCopies idleSession) 0 3 (replicate 4 1) .answer ≡ Ok
   -- G: clock L - 1 seals; at L, 10
   pub g-seals : finishReply image (finishing (limit - 1)) 48 0 .answer ≡ SealedAt (limit - 1)
   pub g-refused : finishTold (finishReply image (finishing limit) 48 0 .answer) ≡ refusal 10

@@ -65,7 +65,7 @@ pub record ListsCopies (d : Desk) (s : ℕ) (es : List Entry) : Type 0 where
       → entry es (2 + 5 * j + m) ≡ store (reservedIndex d s (3 + 5 * j + m)) (copyWord d s j m)
   pub closes : Closes es (1 + 5 * sessionAt d s .count) (reservedIndex d s 0) (d .clock)
 
--- the desk e behind it: session s is x, and all else is as it was
+-- the desk e behind it: session s is x, and all else is as it was but for the list of active sessions, which `Listing` has
 pub record DeskWith (d : Desk) (s : ℕ) (x : Session) (e : Desk) : Type 0 where
   pub session : sessionAt e s ≡ x
   pub others : (t : ℕ) → (t ≡ s → ⊥) → sessionAt e t ≡ sessionAt d t

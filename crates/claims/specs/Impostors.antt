@@ -12,14 +12,14 @@ use Rattle.layout.specs.Image.{word, recordsOf, homeWords, slotAt, persistAt, o
 use Rattle.layout.specs.Oldest.{oldestOf}
 use Rattle.layout.specs.Tidy.{Tidy}
 use Rattle.layout.specs.Told.{Told, refused, result, refusal, copied, home, wait, nothing, held, cleared, clean, replayed, foundAt, is, isRefusal, refusedBy, wordsTold, Ok, Copy, Home, Wait, Held}
-use Rattle.desk.specs.Desk.{noSession, sessionAt, markAt, copyAt, isSealed, isPublished, withPhase, changed}
+use Rattle.desk.specs.Desk.{noSession, sessionAt, markAt, orderAt, copyAt, isSealed, isPublished, withPhase, changed, startOf}
 use Rattle.desk.specs.Publish.{ends, publishFault}
 use Rattle.desk.specs.Group.{member, groupFault}
 use Rattle.desk.specs.declared.state.Phase.the-variants.{Published}
 use Rattle.desk.specs.declared.state.Session.{Session}
 use Rattle.desk.specs.declared.state.Desk.{Desk}
 use Rattle.snapshot.specs.Own.{ownPlace, zeroWords}
-use Rattle.snapshot.specs.Read.{startOf, holderEntry}
+use Rattle.snapshot.specs.Read.{holderEntry}
 use Rattle.commit.specs.Finish.{finishFault}
 use Rattle.commit.specs.Settle.{endOf, startsFor}
 use Rattle.commit.specs.Reclaim.{chosen, clearEntries}
@@ -27,6 +27,7 @@ use Rattle.recovery.specs.Recover.{slotsOf, logAt, cleanB, firstLog, replayEntr
 use Rattle.journal.specs.Log.{countOf, shortB, denoted}
 use Rattle.history.specs.Call.{Listening, Begin, Read, Finish, Find, Call, begin, read, write, abandon, finish, publish, group, settle, reclaim, listen}
 use Rattle.claims.specs.Rules.{Reply, Recovery, Rules, tells, searching, storeRules}
+use Rattle.claims.specs.Listing.{ListDue, SettleByFront}
 use Rattle.claims.specs.Demands.{Demand2, OpeningStores, PublishStores, StoresDue, Demand3}
 use Rattle.claims.specs.Recovering.{RecoverDue}
 use Rattle.claims.specs.Fresh.{Fresh}
@@ -361,7 +362,7 @@ unfoldable pub oneByOne : Desk → ℕ → ℕ → Desk
 oneByOne d set zero = d
 oneByOne d set (suc s) =
     let x = oneByOne d set s in
-    cond (member s set) (changed x s (withPhase (sessionAt x s) (Published (x .clock + 1))) (x .clock + 1) (x .holders)) x
+    cond (member s set) (changed x s (withPhase (sessionAt x s) (Published (x .clock + 1))) (x .clock + 1) (x .holders) (x .order)) x
 
 abbrev pub inTurn : Change → Change
 inTurn other img d c y =
@@ -385,6 +386,7 @@ tickingForEach img d c y =
             m = y .desk .m;
             holders = y .desk .holders;
             sessions = y .desk .sessions;
+            order = y .desk .order;
           };
       looks = y .looks;
     }
@@ -529,6 +531,54 @@ settlingChanged img d c y = storing (differing img (y .entries)) y
 abbrev pub settlesChanged : Rules
 settlesChanged = past 6 settlingChanged
 
+-- ---- impostors that break document 02's Req 09
+
+-- another list in the desk that is left
+abbrev pub reordering : (Desk → ℕ → List ℕ) → Change
+reordering list img d c y =
+    record {
+      told = y .told;
+      entries = y .entries;
+      count = y .count;
+      desk =
+          record {
+            clock = y .desk .clock;
+            n = y .desk .n;
+            m = y .desk .m;
+            holders = y .desk .holders;
+            sessions = y .desk .sessions;
+            order = list d (sessionOf c);
+          };
+      looks = y .looks;
+    }
+
+abbrev pub asItWas : Desk → ℕ → List ℕ
+asItWas d s = d .order
+
+-- begin puts the session in front of the others
+abbrev pub addsInFront : Rules
+addsInFront = past 1 (reordering (λ d s. s ∷ take 15 (d .order)))
+
+-- finish, sealed or empty, leaves the session in the list
+abbrev pub keepsFinished : Rules
+keepsFinished = past 4 (reordering asItWas)
+
+-- a write refused with 7 leaves it there too
+abbrev pub keepsTaken : Rules
+keepsTaken = changing (λ img d c y. cond (eqb (kindOf c) 3 && refusedBy 7 (y .told)) (reordering asItWas img d c y) y)
+
+-- abandon writes 0 over the session's place, and moves nobody up
+unfoldable pub blotted : ℕ → List ℕ → List ℕ
+blotted s [] = []
+blotted s (x ∷ xs) = cond (eqb x s) 0 x ∷ blotted s xs
+
+abbrev pub leavesGap : Rules
+leavesGap = past 8 (reordering (λ d s. blotted s (d .order)))
+
+-- settle names the session in front, which began first, where a lower one has an equal start
+abbrev pub namesFront : Rules
+namesFront = past 6 (λ img d c y. cond (is Wait (y .told)) (tells (wait (orderAt d 0)) d) y)
+
 -- ---- the claim
 
 pub record Impostors : Type 0 where
@@ -556,6 +606,12 @@ pub record Impostors : Type 0 where
   pub names-lowest : Demand2 (names lowestReader) → ⊥
   pub names-last : Demand2 (names lastReader) → ⊥
   pub names-newest : Demand2 (names newestReader) → ⊥
+  -- the list of active sessions, and its front
+  pub adds-in-front : ListDue addsInFront → ⊥
+  pub keeps-finished : ListDue keepsFinished → ⊥
+  pub keeps-taken : ListDue keepsTaken → ⊥
+  pub leaves-gap : ListDue leavesGap → ⊥
+  pub names-front : SettleByFront namesFront → ⊥
   -- find among home records only, the last match, and a search that stops one record early: they break demand 2 and demand 3
   pub finds-home : Demand2 (findsBy asHome firstEnd) → ⊥
   pub finds-last : Demand2 (findsBy asRead lastEnd) → ⊥

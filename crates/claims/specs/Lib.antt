@@ -17,3 +17,4 @@ pub mod ByEntry
 pub mod FinishDue
 pub mod SettleDue
 pub mod LogFaults
+pub mod Listing

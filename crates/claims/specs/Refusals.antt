@@ -235,11 +235,11 @@ pub record Refusals : Type 0 where
   -- the image stays
   pub lay : (n m : ℕ) (img : List ℕ)
       → TurnedAway (layTold (layAnswer n m img)) (firstRefusal layRow (ofImage img 0 n m)) 0 (laidImage n m img) img
-  -- refused, it gives a desk with clock, N and M 0, all idle, unmarked
+  -- refused, it gives a desk with clock, N and M 0, all idle, unmarked, nobody listed
   pub opens : (img : List ℕ) (len : ℕ)
       → TurnedAway (storeRules .opens img len .told) (firstRefusal openRow (ofImage img len 0 0)) 0
       (storeRules .opens img len .desk) (freshDesk 0 0 0)
-  -- 7 names the holder, and leaves the caller idle with its marks and copies dropped; any other refusal leaves the desk
+  -- 7 names the holder, and leaves the caller idle, its marks and copies dropped, out of the list; any other refusal leaves the desk
   pub calls : (img : List ℕ) (d : Desk) (c : Call)
       → TurnedAway (storeRules .call img d c .told) (firstRefusal (row c) (given img d c))
       (only 7 (markAt d (given img d c .rec) - 1) 0 (firstRefusal (row c) (given img d c)))

@@ -43,6 +43,7 @@ pub record GroupRight (img : List ℕ) (d : Desk) (set : ℕ) (y : Reply) : Type
       ≡ record { phase = Published (d .clock + 1); count = sessionAt d s .count; slot = sessionAt d s .slot; copies = sessionAt d s .copies }
   pub others : (s : ℕ) → member s set ≡ false → sessionAt (y .desk) s ≡ sessionAt d s
   pub marks : y .desk .holders ≡ d .holders
+  pub list : y .desk .order ≡ d .order
   pub n-same : y .desk .n ≡ d .n
   pub m-same : y .desk .m ≡ d .m
   pub apart : (s t i j : ℕ) → member s set ≡ true → member t set ≡ true → i < sessionAt d s .count → j < sessionAt d t .count

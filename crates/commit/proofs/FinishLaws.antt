@@ -1,6 +1,6 @@
 -- Finish, case by case.
 use Prim.Native.Nat.{ℕ, _+_, _*_, _-_, _<_, _≤_}
-use mathlib.Core.Bool.{_||_}
+use mathlib.Core.Bool.{true, _||_}
 use mathlib.Core.Path.{_≡_, sym, ap, _∙_}
 use mathlib.Core.List.{List, [], _++_}
 use native.Mathlib.Omega.{arith}
@@ -8,7 +8,7 @@ use lib.Dec.{ltb, eqb}
 use lib.ListN.{length, getD, take, drop}
 use borrow.Author.Tests.{eq-eqb, ne-eqb, leb-true}
 use Rattle.layout.specs.Checks.{unless, first}
-use Rattle.layout.proofs.ChecksLaws.{answered-refused, answered-passed, answered-zero, answered-not}
+use Rattle.layout.proofs.ChecksLaws.{first-both, unless-zero, answered-refused, answered-passed, answered-zero, answered-not}
 use Rattle.layout.specs.Entries.{Entry, shift, made, listed}
 use Rattle.layout.specs.Image.{homeWords, placeOf, slotAt}
 use Rattle.journal.specs.Changes.{Gathered}
@@ -16,7 +16,7 @@ use Rattle.journal.specs.Lengths.{sealLength}
 use Rattle.journal.specs.Log.{eitherBody, sealedBody, logEntries}
 use Rattle.journal.proofs.GatheredLaws.{gathered-body, gathered-length}
 use Rattle.layout.proofs.TraceLaws.{made-tail}
-use Rattle.desk.specs.Desk.{copiedRec, copiedWords, sessionAt, isActive, idleSession, withPhase, putSession}
+use Rattle.desk.specs.Desk.{copiedRec, copiedWords, sessionAt, isActive, idleSession, withPhase, endSession}
 use Rattle.desk.specs.Coherent.{limit}
 use Rattle.desk.specs.declared.state.Phase.the-variants.{Sealed}
 use Rattle.desk.specs.declared.state.Desk.{Desk}
@@ -73,6 +73,10 @@ finished h t a b c = finish-tells _ _ _ _ (a ∙ sym (h .reply), (rw (h .lists) 
 abbrev pub sealFault : Desk → ℕ → ℕ
 sealFault d s = first (unless (isActive (sessionAt d s .phase)) 6) (unless (eqb (sessionAt d s .count) 0 || ltb (d .clock) limit) 10)
 
+-- they have passed: the session is active
+pub seal-active : (d : Desk) (s : ℕ) → sealFault d s ≡ 0 → isActive (sessionAt d s .phase) ≡ true
+seal-active d s z = unless-zero (isActive (sessionAt d s .phase)) 5 (first-both (unless (isActive (sessionAt d s .phase)) 6) _ z .0)
+
 module _ (img : List ℕ) (d : Desk) (len s : ℕ) where
   -- refused by 1, 2, 3 or 4
   pub finish-refused : (k : ℕ) → k ≡ imageFault img d (roomFor len) s → (k ≡ 0 → ⊥) → Finishes img d len s (finishRefused d k) []
@@ -95,7 +99,7 @@ module _ (img : List ℕ) (d : Desk) (len s : ℕ) where
 
     module _ (y : sealFault d s ≡ 0) where
       -- without copies
-      pub finish-empty : sessionAt d s .count ≡ 0 → Finishes img d len s (record { answer = Empty; entries = 0; desk = putSession d s idleSession }) []
+      pub finish-empty : sessionAt d s .count ≡ 0 → Finishes img d len s (record { answer = Empty; entries = 0; desk = endSession d s idleSession (d .holders) }) []
       unfolding finishReply finishEntries finishFault
       finish-empty e =
           record {
@@ -106,7 +110,7 @@ module _ (img : List ℕ) (d : Desk) (len s : ℕ) where
       -- with copies
       pub finish-sealed : (sessionAt d s .count ≡ 0 → ⊥)
           → Finishes img d len s
-          (record { answer = SealedAt (d .clock); entries = sealLength (length (changedWords img d s)) (sessionAt d s .count); desk = putSession d s (withPhase (sessionAt d s) (Sealed (d .clock))) })
+          (record { answer = SealedAt (d .clock); entries = sealLength (length (changedWords img d s)) (sessionAt d s .count); desk = endSession d s (withPhase (sessionAt d s) (Sealed (d .clock))) (d .holders) })
           (sealEntries img d s)
       unfolding finishReply finishEntries finishFault
       finish-sealed n =

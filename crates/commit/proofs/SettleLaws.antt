@@ -9,11 +9,11 @@ use Rattle.layout.proofs.ChecksLaws.{answered-refused, answered-passed}
 use Rattle.layout.specs.Entries.{Entry}
 use Rattle.layout.specs.declared.oldest.Oldest.{Oldest}
 use Rattle.journal.specs.Lengths.{settleLength}
-use Rattle.desk.specs.Desk.{sessionAt, isPublished, dropped}
+use Rattle.desk.specs.Desk.{sessionAt, isPublished}
 use Rattle.desk.specs.declared.state.Desk.{Desk}
 use Rattle.desk.specs.Entering.{imageFault}
 use Rattle.layout.specs.Checks.{roomFor}
-use Rattle.commit.specs.Settle.{settleFault, oldestReader, goHomeEntries, settleEntries, settleRefused, settleReply}
+use Rattle.commit.specs.Settle.{settleFault, oldestReader, goHomeEntries, sentHome, settleEntries, settleRefused, settleReply}
 use Rattle.commit.specs.declared.settling.SettleAnswer.the-variants.{Wait, Ok}
 use Rattle.commit.specs.declared.settling.SettleReply.{SettleReply}
 
@@ -54,7 +54,7 @@ module _ (img : List ℕ) (d : Desk) (len s : ℕ) where
 
       -- the copies go home
       pub settle-stores : reader .number ≡ 0
-          → Settles img d len s (record { answer = Ok; entries = settleLength (sessionAt d s .count); desk = dropped d s }) (goHomeEntries d s)
+          → Settles img d len s (record { answer = Ok; entries = settleLength (sessionAt d s .count); desk = sentHome d s }) (goHomeEntries d s)
       unfolding settleReply settleEntries settleFault answered
       settle-stores n =
           record {

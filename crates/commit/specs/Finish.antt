@@ -1,7 +1,8 @@
 -- Finish (document 01): active only. A session without copies becomes idle and is told "empty", and nothing is stored. Else it is sealed,
 -- with the clock as persist number. Of c copies, k words of which differ from their home records, the log is a short one when 2k is less
 -- than 5c (document 02, Req 08): 16 + k and the pairs, a fence, the persist number, a fence, 2k + 4 entries. Else it is a full one: the
--- count and the copies, then the same, 5c + 4 entries. Checks 1, 2, 3, 4, 6, 10.
+-- count and the copies, then the same, 5c + 4 entries. Sealed or empty, it leaves the list of active sessions (Req 09). Checks 1, 2, 3, 4,
+-- 6, 10.
 use Prim.Native.Nat.{ℕ}
 use mathlib.Core.Bool.{_||_, cond}
 use mathlib.Core.List.{List, []}
@@ -13,7 +14,7 @@ use Rattle.journal.specs.Changes.{changesBelow}
 use Rattle.journal.specs.Lengths.{sealLength}
 use Rattle.journal.specs.Log.{logEntries}
 use Rattle.layout.specs.Image.{homeWords, placeOf, slotAt}
-use Rattle.desk.specs.Desk.{copiedRec, copiedWords, sessionAt, isActive, idleSession, withPhase, putSession}
+use Rattle.desk.specs.Desk.{copiedRec, copiedWords, sessionAt, isActive, idleSession, withPhase, endSession}
 use Rattle.desk.specs.Coherent.{limit}
 use Rattle.desk.specs.declared.state.Phase.the-variants.{Sealed}
 use Rattle.desk.specs.declared.state.Desk.{Desk}
@@ -51,11 +52,11 @@ finishRefused d k = record { answer = Refused k; entries = 0; desk = d }
 abbrev pub finishDone : List ℕ → Desk → ℕ → FinishReply
 finishDone img d s =
     cond (eqb (sessionAt d s .count) 0)
-    (record { answer = Empty; entries = 0; desk = putSession d s idleSession })
+    (record { answer = Empty; entries = 0; desk = endSession d s idleSession (d .holders) })
     (record {
       answer = SealedAt (d .clock);
       entries = sealLength (length (changedWords img d s)) (sessionAt d s .count);
-      desk = putSession d s (withPhase (sessionAt d s) (Sealed (d .clock)));
+      desk = endSession d s (withPhase (sessionAt d s) (Sealed (d .clock))) (d .holders);
     })
 
 unfoldable pub finishReply : List ℕ → Desk → ℕ → ℕ → FinishReply

@@ -1,6 +1,7 @@
 -- Settle (document 01, and document 02's Req 01): published only. If an active session has a start below this end, the answer is "wait" with
 -- the one that has the smallest start, and among equal starts the lowest session; no stores. Otherwise the copies go home and a fence
--- follows: 4c + 1 entries. Marks and copies are dropped; the session is idle; the slot stays occupied. Checks 1, 2, 3, 4, 6.
+-- follows: 4c + 1 entries. Marks and copies are dropped; the session is idle; the slot stays occupied. The definition
+-- looks at every session; the code at the front of the list alone (document 02, Req 09; `Front` in proofs/). Checks 1, 2, 3, 4, 6.
 use Prim.Native.Nat.{ℕ}
 use mathlib.Core.Bool.{Bool, not, cond}
 use mathlib.Core.List.{List, [], _∷_, _++_}
@@ -11,7 +12,7 @@ use Rattle.layout.specs.Homes.{homesWrites}
 use Rattle.layout.specs.Oldest.{oldestOf}
 use Rattle.layout.specs.declared.oldest.Oldest.{Oldest}
 use Rattle.journal.specs.Lengths.{settleLength}
-use Rattle.desk.specs.Desk.{copiedRec, copiedWords, sessionAt, isPublished, dropped}
+use Rattle.desk.specs.Desk.{copiedRec, copiedWords, sessionAt, isPublished, idleSession, changed, restMarks}
 use Rattle.desk.specs.declared.state.Phase.{Phase}
 use Rattle.desk.specs.declared.state.Phase.the-variants.{Idle, Active, Sealed, Published}
 use Rattle.desk.specs.declared.state.Desk.{Desk}
@@ -62,12 +63,16 @@ settleEntries img d len s = answered (settleFault img d len s) (λ k. []) (cond 
 abbrev pub settleRefused : Desk → ℕ → SettleReply
 settleRefused d k = record { answer = Refused k; entries = 0; desk = d }
 
+-- session s is idle, its marks and copies are dropped; it was not among the active ones
+abbrev pub sentHome : Desk → ℕ → Desk
+sentHome d s = changed d s idleSession (d .clock) (restMarks d s) (d .order)
+
 -- the number of entries is the table's, by the number of copies
 abbrev pub settleDone : Desk → ℕ → SettleReply
 settleDone d s =
     cond (waitsB d s)
     (record { answer = Wait (oldestReader d s .place); entries = 0; desk = d })
-    (record { answer = Ok; entries = settleLength (sessionAt d s .count); desk = dropped d s })
+    (record { answer = Ok; entries = settleLength (sessionAt d s .count); desk = sentHome d s })
 
 unfoldable pub settleReply : List ℕ → Desk → ℕ → ℕ → SettleReply
 settleReply img d len s = answered (settleFault img d len s) (settleRefused d) (settleDone d s)

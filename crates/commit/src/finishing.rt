@@ -9,12 +9,14 @@ ghost use Rattle.desk.specs.Coherent.{limit};
 ghost use Rattle.commit.specs.Finish.{finishEntries, finishReply, finishSaid};
 ghost use Rattle.commit.specs.Told.{finishTold};
 use desk::Desk;
+use desk::INCOHERENT;
 use desk::LIMIT;
 use desk::Phase;
-use desk::coherent;
+use desk::census;
 use desk::entry_fault;
 use desk::idle_session;
 use desk::is_active;
+use desk::leave;
 use desk::with_phase;
 
 pub enum FinishAnswer {
@@ -63,11 +65,19 @@ pub fn finish(image: &mut [u64], mut desk: Desk, trace: &mut [u64], session: u64
         ≡ listed (finishEntries (now (image .entry)) desk (length (now (trace .entry))) session) (now (trace .entry)) ⌝ }
     ensures told { λ r. ⌜ finishTold (r .answer) ≡ finishSaid (now (image .entry)) desk (length (now (trace .entry))) session ⌝ }
 {
-    let sound = coherent(desk);
+    let active = census(desk);
     let clock = desk.clock;
     let n = desk.n;
     let m = desk.m;
-    let fault = entry_fault(image, sound, clock, n, m, 48 <= trace.len(), session);
+    let fault = entry_fault(
+        image,
+        active < INCOHERENT,
+        clock,
+        n,
+        m,
+        48 <= trace.len(),
+        session,
+    );
     if fault != 0 {
         return gives(desk, FinishAnswer::Refused(fault), 0);
     }
@@ -79,6 +89,8 @@ pub fn finish(image: &mut [u64], mut desk: Desk, trace: &mut [u64], session: u64
     if shut != 0 {
         return gives(desk, FinishAnswer::Refused(shut), 0);
     }
+    let order = desk.order;
+    desk.order = leave(order, session as u8, active);
     if count == 0 {
         desk.sessions[i] = idle_session();
         return gives(desk, FinishAnswer::Empty, 0);

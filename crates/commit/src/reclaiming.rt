@@ -9,8 +9,9 @@ ghost use Rattle.layout.specs.Oldest.{oldestOf};
 ghost use Rattle.commit.specs.Reclaim.{inUse, reclaimEntries, reclaimReply, reclaimSaid};
 ghost use Rattle.commit.specs.Told.{reclaimTold};
 use desk::Desk;
+use desk::INCOHERENT;
 use desk::Session;
-use desk::coherent;
+use desk::census;
 use desk::entry_fault;
 use desk::is_published;
 use desk::is_sealed;
@@ -74,11 +75,19 @@ pub fn reclaim(image: &mut [u64], desk: Desk, trace: &mut [u64], session: u64) -
         ≡ listed (reclaimEntries (now (image .entry)) desk (length (now (trace .entry))) session) (now (trace .entry)) ⌝ }
     ensures told { λ r. ⌜ reclaimTold (r .answer) ≡ reclaimSaid (now (image .entry)) desk (length (now (trace .entry))) session ⌝ }
 {
-    let sound = coherent(desk);
+    let active = census(desk);
     let clock = desk.clock;
     let n = desk.n;
     let m = desk.m;
-    let fault = entry_fault(image, sound, clock, n, m, 48 <= trace.len(), session);
+    let fault = entry_fault(
+        image,
+        active < INCOHERENT,
+        clock,
+        n,
+        m,
+        48 <= trace.len(),
+        session,
+    );
     if fault != 0 {
         return gives(desk, ReclaimAnswer::Refused(fault), 0);
     }

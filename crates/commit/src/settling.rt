@@ -1,18 +1,19 @@
 // Settle: the session to wait for, or that the copies went home; and the number of entries.
 ghost use mathlib.Core.Path.{_≡_};
+ghost use mathlib.Core.Logic.{_⊎_};
+ghost use Prim.Native.Nat.{_≤_};
 ghost use lib.ListN.{length};
 ghost use Rattle.layout.specs.Entries.{made, listed};
 ghost use Rattle.commit.specs.Settle.{endOf, startBelow, settleEntries, settleReply, settleSaid};
 ghost use Rattle.commit.specs.Told.{settleTold};
 use desk::Desk;
+use desk::INCOHERENT;
 use desk::Phase;
-use desk::coherent;
+use desk::census;
 use desk::entry_fault;
 use desk::idle_session;
 use desk::is_published;
 use desk::unmark;
-use layout::Oldest;
-use layout::older;
 
 pub enum SettleAnswer {
     Refused(u64),
@@ -55,6 +56,13 @@ fn start_below(end: u64, p: Phase) -> u64
     }
 }
 
+// The lower of two sessions.
+fn lower(a: u8, b: u8) -> u8
+    ensures { λ r. ⌜ (r ≤ a) × ((r ≤ b) × ((r ≡ a) ⊎ (r ≡ b))) ⌝ }
+{
+    if b < a { b } else { a }
+}
+
 fn gives(desk: Desk, answer: SettleAnswer, entries: u64) -> SettleReply
     ensures { λ r. ⌜ r ≡ record { answer = answer; entries = entries; desk = desk } ⌝ }
 {
@@ -65,7 +73,8 @@ fn gives(desk: Desk, answer: SettleAnswer, entries: u64) -> SettleReply
     }
 }
 
-// Sends a published session's copies home, unless active sessions have a start below its end: then it names the oldest of them.
+// Sends a published session's copies home, unless active sessions have a start below its end: then it names the oldest of them, the lowest
+// in the front run of equal starts of the list. With nobody active place 0 reads as session 0, which has no start.
 pub fn settle(image: &mut [u64], mut desk: Desk, trace: &mut [u64], session: u64) -> SettleReply
     ensures reply { λ r. ⌜ r ≡ settleReply (now (image .entry)) desk (length (now (trace .entry))) session ⌝ }
     ensures image { λ r. ⌜ now (image .exit)
@@ -74,11 +83,19 @@ pub fn settle(image: &mut [u64], mut desk: Desk, trace: &mut [u64], session: u64
         ≡ listed (settleEntries (now (image .entry)) desk (length (now (trace .entry))) session) (now (trace .entry)) ⌝ }
     ensures told { λ r. ⌜ settleTold (r .answer) ≡ settleSaid (now (image .entry)) desk (length (now (trace .entry))) session ⌝ }
 {
-    let sound = coherent(desk);
+    let active = census(desk);
     let clock = desk.clock;
     let n = desk.n;
     let m = desk.m;
-    let fault = entry_fault(image, sound, clock, n, m, 48 <= trace.len(), session);
+    let fault = entry_fault(
+        image,
+        active < INCOHERENT,
+        clock,
+        n,
+        m,
+        48 <= trace.len(),
+        session,
+    );
     if fault != 0 {
         return gives(desk, SettleAnswer::Refused(fault), 0);
     }
@@ -89,19 +106,24 @@ pub fn settle(image: &mut [u64], mut desk: Desk, trace: &mut [u64], session: u64
         return gives(desk, SettleAnswer::Refused(6), 0);
     }
     let end = end_of(p);
-    let mut reader = Oldest {
-        number: 0,
-        place: 0,
-    };
-    let mut t: usize = 0;
-    while t < 16 {
-        let other = desk.sessions[t];
-        let q = other.phase;
-        reader = older(reader, start_below(end, q), t as u64);
-        t += 1;
-    }
-    if reader.number != 0 {
-        return gives(desk, SettleAnswer::Wait(reader.place), 0);
+    let front = desk.order[0];
+    let head = desk.sessions[front as usize];
+    let q = head.phase;
+    let start = start_below(end, q);
+    if start != 0 {
+        let mut lowest = front;
+        let mut j: usize = 1;
+        while j < active {
+            let x = desk.order[j];
+            let other = desk.sessions[x as usize];
+            let o = other.phase;
+            if start_below(end, o) != start {
+                return gives(desk, SettleAnswer::Wait(lowest as u64), 0);
+            }
+            lowest = lower(lowest, x);
+            j += 1;
+        }
+        return gives(desk, SettleAnswer::Wait(lowest as u64), 0);
     }
     let count = e.count;
     let copies = e.copies;

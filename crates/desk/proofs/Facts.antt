@@ -2,16 +2,20 @@
 use Prim.Native.Nat.{ℕ, _+_, _<_, _≤_}
 use mathlib.Core.Bool.{true, _||_, false≢true}
 use mathlib.Core.Path.{_≡_, refl}
-use mathlib.Core.Logic.{_⊎_}
+use mathlib.Core.Logic.{_⊎_, inl, inr}
 use native.Mathlib.Omega.{arith}
+use lib.Dec.{ltb}
+use borrow.Author.Tests.{lt-ltb, ltb-true, ltb-false}
 use Rattle.layout.specs.Below.{allBelow, countBelow}
-use Rattle.layout.proofs.Says.{Says, says-le, says-lt, says-eq, says-ne, says-and, says-or, says-same, says-all, says-any, says-if, says-itself, says-by}
+use Rattle.layout.proofs.BelowLaws.{count-most}
+use Rattle.layout.proofs.Says.{Says, says-le, says-lt, says-eq, says-ne, says-and, says-or, says-same, says-all, says-any, says-if, says-itself, says-then, says-by, by-test, by-case}
 use Rattle.desk.specs.declared.state.Desk.{Desk}
 use Rattle.desk.specs.declared.state.Session.{Session}
 use Rattle.desk.specs.declared.state.Phase.{Phase}
 use Rattle.desk.specs.declared.state.Phase.the-variants.{Idle, Active, Sealed, Published}
-use Rattle.desk.specs.Desk.{copyAt, sessionAt, markAt, isIdle, isSealed, isPublished}
-use Rattle.desk.specs.Coherent.{limit, copiesB, markOk, entryOk, sessionOk, placesOk, placeOk, freshB, countOk, numberOk, zeroCopyB, sealedAt, sizesOk, coherentB}
+use Rattle.desk.specs.Desk.{copyAt, sessionAt, markAt, orderAt, isIdle, isSealed, isPublished, startAt, activeAt, activeCount}
+use Rattle.desk.specs.Coherent.{limit, copiesB, markOk, entryOk, sessionOk, placesOk, placeOk, freshB, countOk, numberOk, zeroCopyB, sealedAt, sizesOk, listOk, coherentB, censusOf}
+use Rattle.desk.proofs.Order.{InOrder}
 
 abbrev pub CountIn : Phase → ℕ → Type 0
 CountIn Idle k = k ≡ 0
@@ -104,6 +108,32 @@ says-mark d k =
 pub says-marks : (d : Desk) → Says (allBelow 256 (markOk d)) ((k : ℕ) → k < 256 → MarkIs d k)
 says-marks d = says-all 256 (says-mark d)
 
+-- the list of active sessions
+pub says-order : (d : Desk) → Says (listOk d) (InOrder (activeAt d) (startAt d) (orderAt d))
+says-order d =
+    says-by
+    (says-and
+    (says-and
+    (says-and
+    (says-all 16 (λ j. says-then (used j) (says-and (says-lt (orderAt d j) 16) (says-itself (activeAt d (orderAt d j))))))
+    (says-all 16 (λ j. says-then (used j) (says-all j (λ i. says-ne (orderAt d i) (orderAt d j))))))
+    (says-all 16 (λ j. says-then (used j) (says-all j (λ i. says-le (startAt d (orderAt d i)) (startAt d (orderAt d j)))))))
+    (says-all 16 (λ j. says-or (used j) (says-eq (orderAt d j) 0))))
+    (λ t.
+    record {
+      used = λ j l.
+          let k : j < 16 = omega (arith, count-most (activeAt d) 16) in
+          (t .0 .0 .0 j k l, λ i b. (t .0 .0 .1 j k l i b, t .0 .1 j k l i b));
+      unused = λ j l u. by-case (t .1 j l) (λ b. absurd (omega arith)) (λ e. e);
+    })
+    (λ r. (
+      ((λ j l u. r .used j u .0, λ j l u i b. r .used j u .1 i b .0), λ j l u i b. r .used j u .1 i b .1),
+      λ j l. by-test (ltb j (activeCount d)) (λ t. inl (ltb-true j (activeCount d) t)) (λ f. inr (r .unused j l (ltb-false j (activeCount d) f))),
+    ))
+  where
+    used : (j : ℕ) → Says (ltb j (activeCount d)) (j < activeCount d)
+    used j = says-lt j (activeCount d)
+
 pub record Coherent (d : Desk) : Type 0 where
   pub clock-low : 1 ≤ d .clock
   pub clock-high : d .clock + countBelow 16 (sealedAt d) ≤ limit + 16
@@ -114,6 +144,7 @@ pub record Coherent (d : Desk) : Type 0 where
   pub session : (s : ℕ) → s < 16 → SessionIn (d .clock) (d .n) (sessionAt d s)
   pub idle : (s : ℕ) → s < 16 → (s < d .m) ⊎ (isIdle (sessionAt d s .phase) ≡ true)
   pub marks : (k : ℕ) → k < 256 → MarkIs d k
+  pub order : InOrder (activeAt d) (startAt d) (orderAt d)
 
 pub says-entries : (d : Desk)
     → Says (allBelow 16 (entryOk d)) ((s : ℕ) → s < 16 → SessionIn (d .clock) (d .n) (sessionAt d s) × ((s < d .m) ⊎ (isIdle (sessionAt d s .phase) ≡ true)))
@@ -135,7 +166,7 @@ pub says-coherent : (d : Desk) → Says (coherentB d) (Coherent d)
 unfolding coherentB
 says-coherent d =
     says-by
-    (says-and (says-sizes d) (says-and (says-entries d) (says-marks d)))
+    (says-and (says-sizes d) (says-and (says-entries d) (says-and (says-marks d) (says-order d))))
     (λ t.
     record {
       clock-low = t .0 .0 .0 .0;
@@ -146,6 +177,19 @@ says-coherent d =
       m-high = t .0 .1 .1;
       session = λ s l. t .1 .0 s l .0;
       idle = λ s l. t .1 .0 s l .1;
-      marks = t .1 .1;
+      marks = t .1 .1 .0;
+      order = t .1 .1 .1;
     })
-    (λ r. (((((r .clock-low, r .clock-high), (r .n-low, r .n-high)), (r .m-low, r .m-high))), (λ s l. (r .session s l, r .idle s l), r .marks)))
+    (λ r. (((((r .clock-low, r .clock-high), (r .n-low, r .n-high)), (r .m-low, r .m-high))), (λ s l. (r .session s l, r .idle s l), (r .marks, r .order))))
+
+-- ---- what is found of a desk
+
+-- 17 just where it is not coherent
+pub census-coherent : (d : Desk) → ltb (censusOf d) 17 ≡ coherentB d
+unfolding censusOf
+census-coherent d = by-test (coherentB d) (λ t. rw t (lt-ltb (activeCount d) 17 (omega (arith, count-most (activeAt d) 16)))) (λ f. rw f)
+
+-- else how many sessions are active
+pub census-counts : (d : Desk) → Coherent d → censusOf d ≡ activeCount d
+unfolding censusOf
+census-counts d h = rw (says-coherent d .no h)

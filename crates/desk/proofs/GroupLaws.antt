@@ -43,7 +43,7 @@ set-seen d set e q f = rw (q, e) at f
 
 -- a desk with other sessions
 abbrev pub withSessions : Desk → List Session → Desk
-withSessions d xs = record { clock = d .clock; n = d .n; m = d .m; holders = d .holders; sessions = xs }
+withSessions d xs = record { clock = d .clock; n = d .n; m = d .m; holders = d .holders; sessions = xs; order = d .order }
 
 module _ (d : Desk) (set e s : ℕ) {x : Desk} (before : x ≡ withSessions d (publishedBelow (d .sessions) set e s)) where
   pub published-member : member s set ≡ true

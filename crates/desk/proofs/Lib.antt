@@ -1,12 +1,17 @@
 pub mod Copied
+pub mod Counts
 pub mod DeskEntered
 pub mod Entered
 pub mod RecordEntered
 pub mod Facts
+pub mod Listed
+pub mod Order
 pub mod Sizes
 pub mod Struck
 pub mod Walk
 pub mod PublishLaws
 pub mod GroupLaws
 pub mod GroupDesk
+pub mod Without
 pub mod ToldLaws
+pub mod Moved

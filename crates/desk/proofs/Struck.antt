@@ -1,7 +1,7 @@
 -- The code's test, which strikes marks, is the definition: `coherentByStriking` is true just where `coherentB` is.
 use Prim.Native.Nat.{ℕ, zero, suc, _+_, _-_, _<_, _≤_}
 use mathlib.Core.Bool.{Bool, true, false, not, _&&_, _||_, cond, false≢true}
-use mathlib.Core.List.{List, [], _∷_}
+use mathlib.Core.List.{List}
 use mathlib.Core.Path.{_≡_, refl, sym, ap, _∙_, subst}
 use mathlib.Core.Logic.{_⊎_, inl, inr}
 use native.Mathlib.Omega.{arith}
@@ -15,17 +15,12 @@ use Rattle.desk.specs.declared.state.Desk.{Desk}
 use Rattle.desk.specs.declared.state.Session.{Session}
 use Rattle.desk.specs.declared.state.Phase.{Phase}
 use Rattle.desk.specs.declared.state.Phase.the-variants.{Idle, Active, Sealed, Published}
-use Rattle.desk.specs.Desk.{copyAt, sessionAt, markAt, isIdle}
+use Rattle.desk.specs.Desk.{copyAt, sessionAt, markAt, isIdle, activeCount}
 use Rattle.desk.specs.Coherent.{limit, zeroCopyB, sealedAt, coherentB}
-use Rattle.desk.specs.Strike.{strikable, struck, struckPlaces, placePasses, placePassesAt, sessionPasses, entryPasses, struckEntry, struckBelow, entryPassesAt, quietAt, zeroAt, coherentByStriking}
+use Rattle.desk.specs.Strike.{strikable, struck, struckPlaces, placePasses, placePassesAt, sessionPasses, entryPasses, struckEntry, struckBelow, entryPassesAt, quietAt, zeroAt, blankBelow, coherentByStriking}
 use Rattle.desk.proofs.Facts.{CountIn, says-count, NumberIn, says-number, Copies, MarkIs, Coherent, says-coherent}
+use Rattle.desk.proofs.Listed.{set-zero, Passes, says-passes, to-order, to-passes, to-blank}
 use Rattle.desk.proofs.Sizes.{SizesIn, says-sizes-pass}
-
--- a mark that is struck is 0, also past the end
-set-zero : (h : List ℕ) (i : ℕ) → getD (set h i 0) i 0 ≡ 0
-set-zero [] i = refl
-set-zero (x ∷ xs) zero = refl
-set-zero (x ∷ xs) (suc i) = set-zero xs i
 
 -- record i is struck (b), or not: the mark of record k is 0 or what it was
 left-one : (b : Bool) (h : List ℕ) (i k : ℕ) → getD (cond b (set h i 0) h) k 0 ≡ cond (b && eqb i k) 0 (getD h k 0)
@@ -240,7 +235,9 @@ module _ (d : Desk) where
     sizes : SizesIn d
     clock-high : d .clock + countBelow 16 (sealedAt d) ≤ limit + 16
     entry : (s : ℕ) → s < 16 → Entry s
+    list : (j : ℕ) → j < activeCount d → Passes d j
     gone : (k : ℕ) → k < 256 → Gone k
+    blank : (j : ℕ) → j < 16 → getD (blankBelow (d .order) (activeCount d)) j 0 ≡ 0
 
   -- the whole test
   says-sound : Says (coherentByStriking d) Sound
@@ -250,15 +247,22 @@ module _ (d : Desk) where
       (says-and (says-sizes-pass d)
       (says-and (says-all 16 says-quiet)
       (says-and (says-all 16 says-busy)
-      (says-and (says-le (d .clock + countBelow 16 (sealedAt d)) (limit + 16)) (says-all 256 says-gone)))))
+      (says-and (says-le (d .clock + countBelow 16 (sealedAt d)) (limit + 16))
+      (says-and (says-all (activeCount d) (says-passes d))
+      (says-and (says-all 256 says-gone) (says-all 16 (λ j. says-eq (getD (blankBelow (d .order) (activeCount d)) j 0) 0))))))))
       (λ t.
       record {
         sizes = t .0;
         clock-high = t .1 .1 .1 .0;
         entry = λ s l. to-entry s (t .1 .0 s l) (t .1 .1 .0 s l .1);
-        gone = t .1 .1 .1 .1;
+        list = t .1 .1 .1 .1 .0;
+        gone = t .1 .1 .1 .1 .1 .0;
+        blank = t .1 .1 .1 .1 .1 .1;
       })
-      (λ r. (r .sizes, (λ s l. to-quiet s (r .entry s l .0), (λ s l. (λ i. refl, to-busy s (r .entry s l)), (r .clock-high, r .gone)))))
+      (λ r. (
+        r .sizes,
+        (λ s l. to-quiet s (r .entry s l .0), (λ s l. (λ i. refl, to-busy s (r .entry s l)), (r .clock-high, (r .list, (r .gone, r .blank))))),
+      ))
 
   -- two places of a session with one record: the later would find 0
   fresh : (s j : ℕ) → Finds s j (recAt s j) → j < at s .count → (i : ℕ) → i < j → recAt s i ≡ recAt s j → ⊥
@@ -302,6 +306,7 @@ module _ (d : Desk) where
               };
           idle = λ s l. r .entry s l .1;
           marks = marked;
+          order = to-order d (r .list) (r .blank);
         }
 
   module _ (c : Coherent d) where
@@ -349,7 +354,9 @@ module _ (d : Desk) where
               let x = c .session s l in
               let places : (j : ℕ) → j < 4 → Place s j = λ j lj. (finds s j l lj, x .places j lj .1) in
               ((((x .count, x .number), (x .slot-small, x .slot-none)), places), c .idle s l);
+          list = to-passes d (c .order);
           gone = gone-all;
+          blank = to-blank d (c .order);
         }
 
   -- the test that strikes marks is the definition

@@ -1,4 +1,5 @@
--- Abandon (document 01): active only; marks and copies are dropped, the session is idle. Checks 2, 4, 6.
+-- Abandon (document 01): active only; marks and copies are dropped, the session is idle and out of the list (document 02, Req 09). Checks 2,
+-- 4, 6.
 use Prim.Native.Nat.{ℕ}
 use Rattle.layout.specs.Checks.{unless, first, answered}
 use Rattle.desk.specs.Desk.{sessionAt, isActive, dropped}

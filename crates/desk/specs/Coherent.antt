@@ -4,7 +4,7 @@ use mathlib.Core.Bool.{Bool, true, not, _&&_, _||_, cond, Bool·beq}
 use lib.ListN.{getD}
 use lib.Dec.{leb, ltb, eqb}
 use Rattle.layout.specs.Below.{allBelow, anyBelow, countBelow}
-use Rattle.desk.specs.Desk.{copyAt, sessionAt, markAt, isIdle, isSealed}
+use Rattle.desk.specs.Desk.{copyAt, sessionAt, markAt, orderAt, isIdle, isSealed, startAt, activeAt, activeCount}
 use Rattle.desk.specs.declared.state.Phase.{Phase}
 use Rattle.desk.specs.declared.state.Phase.the-variants.{Idle, Active, Sealed, Published}
 use Rattle.desk.specs.declared.state.RecordCopy.{RecordCopy}
@@ -84,6 +84,35 @@ sizesOk d =
     && (leb 1 (d .n) && leb (d .n) 256)
     && (leb 1 (d .m) && leb (d .m) 16)
 
+-- ---- the list of active sessions (document 02, Req 09)
+
+-- place j is in use: the first ones are, as many as there are active sessions
+abbrev pub usedB : Desk → ℕ → Bool
+usedB d j = ltb j (activeCount d)
+
+-- a place in use has a session, and an active one
+abbrev pub holdsB : Desk → ℕ → Bool
+holdsB d j = not (usedB d j) || (ltb (orderAt d j) 16 && activeAt d (orderAt d j))
+
+-- which stands at no place before it
+abbrev pub onceB : Desk → ℕ → Bool
+onceB d j = not (usedB d j) || allBelow j (λ i. not (eqb (orderAt d i) (orderAt d j)))
+
+-- and has no session before it that began later
+abbrev pub risesB : Desk → ℕ → Bool
+risesB d j = not (usedB d j) || allBelow j (λ i. leb (startAt d (orderAt d i)) (startAt d (orderAt d j)))
+
+-- any other place is 0
+abbrev pub unusedOk : Desk → ℕ → Bool
+unusedOk d j = usedB d j || eqb (orderAt d j) 0
+
+abbrev pub listOk : Desk → Bool
+listOk d = allBelow 16 (holdsB d) && allBelow 16 (onceB d) && allBelow 16 (risesB d) && allBelow 16 (unusedOk d)
+
 -- a coherent desk
 unfoldable pub coherentB : Desk → Bool
-coherentB d = sizesOk d && (allBelow 16 (entryOk d) && allBelow 256 (markOk d))
+coherentB d = sizesOk d && (allBelow 16 (entryOk d) && (allBelow 256 (markOk d) && listOk d))
+
+-- how many sessions of a coherent desk are active; 17 of any other desk
+unfoldable pub censusOf : Desk → ℕ
+censusOf d = cond (coherentB d) (activeCount d) 17

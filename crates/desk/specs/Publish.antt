@@ -28,7 +28,7 @@ ends img d after =
     record {
       answer = End (d .clock + 1);
       entries = length (passEntries img (d .clock + 1));
-      desk = record { clock = d .clock + 1; n = d .n; m = d .m; holders = d .holders; sessions = after };
+      desk = record { clock = d .clock + 1; n = d .n; m = d .m; holders = d .holders; sessions = after; order = d .order };
     }
 
 -- what it tells: the end

@@ -1,12 +1,14 @@
--- What the code goes by: each copy's mark is struck out of a copy of the holders, and nothing may be left.
+-- What the code goes by: each copy's mark is struck out of a copy of the holders, each place in use out of a copy of the list, and nothing
+-- may be left.
 use Prim.Native.Nat.{ℕ, zero, suc, _+_}
 use mathlib.Core.Bool.{Bool, true, not, _&&_, _||_, cond}
 use mathlib.Core.List.{List}
-use lib.ListN.{getD, set}
+use lib.ListN.{getD, set, replicate}
 use lib.Dec.{leb, ltb, eqb}
 use Rattle.layout.specs.Below.{allBelow, countBelow}
-use Rattle.desk.specs.Desk.{copyAt, sessionAt, isIdle}
+use Rattle.desk.specs.Desk.{noSession, copyAt, sessionAt, isIdle, isActive, startOf, activeCount}
 use Rattle.desk.specs.Coherent.{sealedAt, countOk, numberOk, slotOk, zeroCopyB, limit}
+use Rattle.desk.specs.declared.state.Phase.{Phase}
 use Rattle.desk.specs.declared.state.RecordCopy.{RecordCopy}
 use Rattle.desk.specs.declared.state.Session.{Session}
 use Rattle.desk.specs.declared.state.Desk.{Desk}
@@ -66,7 +68,7 @@ quiet e =
 abbrev pub quietAt : Desk → ℕ → Bool
 quietAt d s = not (isIdle (sessionAt d s .phase)) || quiet (sessionAt d s)
 
--- record k has no mark
+-- place k is 0: no mark is left there, or no session
 abbrev pub zeroAt : List ℕ → ℕ → Bool
 zeroAt h k = eqb (getD h k 0) 0
 
@@ -75,8 +77,34 @@ abbrev pub sizesPass : Desk → Bool
 sizesPass d =
     leb 1 (d .clock) && leb (d .clock) (limit + 16) && (leb 1 (d .n) && leb (d .n) 256) && (leb 1 (d .m) && leb (d .m) 16)
 
--- the code's test: nothing is left of the holders
+-- the list of active sessions: those that its places below j have are noted
+unfoldable pub notedBelow : List ℕ → ℕ → List ℕ
+notedBelow o zero = replicate 16 0
+notedBelow o (suc j) = set (notedBelow o j) (getD o j 0) 1
+
+-- and the places below j are struck out
+unfoldable pub blankBelow : List ℕ → ℕ → List ℕ
+blankBelow o zero = o
+blankBelow o (suc j) = set (blankBelow o j) j 0
+
+-- the phase of the session that place j has
+abbrev pub phaseListed : List Session → List ℕ → ℕ → Phase
+phaseListed es o j = getD es (getD o j 0) noSession .phase
+
+-- the start of the place before j, 0 at the front
+unfoldable pub startBefore : List Session → List ℕ → ℕ → ℕ
+startBefore es o zero = 0
+startBefore es o (suc j) = startOf (phaseListed es o j)
+
+-- place j of the list passes: its session is not noted yet, is active, and its start does not fall
+abbrev pub listPasses : List Session → List ℕ → ℕ → Bool
+listPasses es o j =
+    ltb (getD o j 0) 16 && (eqb (getD (notedBelow o j) (getD o j 0) 0) 0
+    && (isActive (phaseListed es o j) && leb (startBefore es o j) (startOf (phaseListed es o j))))
+
+-- the code's test: as many places of the list pass as sessions are active, and nothing is left of the holders and of the list
 unfoldable pub coherentByStriking : Desk → Bool
 coherentByStriking d =
     sizesPass d && (allBelow 16 (quietAt d) && (allBelow 16 (entryPassesAt d)
-    && (leb (d .clock + countBelow 16 (sealedAt d)) (limit + 16) && allBelow 256 (zeroAt (struckBelow d 16)))))
+    && (leb (d .clock + countBelow 16 (sealedAt d)) (limit + 16) && (allBelow (activeCount d) (listPasses (d .sessions) (d .order))
+    && (allBelow 256 (zeroAt (struckBelow d 16)) && allBelow 16 (zeroAt (blankBelow (d .order) (activeCount d))))))))

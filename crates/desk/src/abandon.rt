@@ -1,11 +1,13 @@
-// Abandon: an active session drops its marks and copies and becomes idle.
+// Abandon: an active session drops its marks and copies and becomes idle. It is taken out of the list of the active ones.
 ghost use mathlib.Core.Path.{_≡_};
 ghost use Rattle.desk.specs.Abandon.{abandonReply, abandonSaid};
 ghost use Rattle.desk.specs.Told.{abandonTold};
-use crate::coherence::coherent;
+use crate::coherence::INCOHERENT;
+use crate::coherence::census;
 use crate::entering::session_fault;
 use crate::session::idle_session;
 use crate::session::is_active;
+use crate::session::leave;
 use crate::session::unmark;
 use crate::state::Desk;
 
@@ -24,9 +26,9 @@ impl Desk {
         ensures reply { λ r. ⌜ r ≡ abandonReply self session ⌝ }
         ensures told { λ r. ⌜ abandonTold (r .answer) ≡ abandonSaid self session ⌝ }
     {
-        let sound = coherent(self);
+        let active = census(self);
         let m = self.m;
-        let fault = session_fault(sound, m, session);
+        let fault = session_fault(active < INCOHERENT, m, session);
         if fault != 0 {
             return AbandonReply {
                 answer: AbandonAnswer::Refused(fault),
@@ -45,6 +47,8 @@ impl Desk {
         let count = e.count;
         let copies = e.copies;
         unmark(&mut self.holders, copies, count);
+        let order = self.order;
+        self.order = leave(order, session as u8, active);
         let idle = idle_session();
         self.sessions[i] = idle;
         AbandonReply {

@@ -1,8 +1,9 @@
-// Begin: an idle session becomes active, and its start is the clock.
+// Begin: an idle session becomes active, and its start is the clock. In the list it stands behind those that are active.
 ghost use mathlib.Core.Path.{_≡_};
 ghost use Rattle.desk.specs.Begin.{beginReply, beginSaid};
 ghost use Rattle.desk.specs.Told.{beginTold};
-use crate::coherence::coherent;
+use crate::coherence::INCOHERENT;
+use crate::coherence::census;
 use crate::entering::session_fault;
 use crate::session::is_idle;
 use crate::session::with_phase;
@@ -24,9 +25,9 @@ impl Desk {
         ensures reply { λ r. ⌜ r ≡ beginReply self session ⌝ }
         ensures told { λ r. ⌜ beginTold (r .answer) ≡ beginSaid self session ⌝ }
     {
-        let sound = coherent(self);
+        let active = census(self);
         let m = self.m;
-        let fault = session_fault(sound, m, session);
+        let fault = session_fault(active < INCOHERENT, m, session);
         if fault != 0 {
             return BeginReply {
                 answer: BeginAnswer::Refused(fault),
@@ -42,6 +43,7 @@ impl Desk {
                 desk: self,
             };
         }
+        self.order[active] = session as u8;
         let clock = self.clock;
         let begun = with_phase(e, Phase::Active(clock));
         self.sessions[i] = begun;

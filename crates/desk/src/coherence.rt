@@ -1,13 +1,15 @@
-// Whether a desk is coherent. Each copy's mark is struck out of a copy of the holders, and nothing may be left.
+// Whether a desk is coherent, and how many of its sessions are active. Each copy's mark is struck out of a copy of the holders, each place in
+// use out of a copy of the list, and nothing may be left.
 ghost use mathlib.Core.Path.{_≡_};
-ghost use Prim.Native.Nat.{_+_, _≤_, _<_};
-ghost use mathlib.Core.Bool.{true, not, _||_, cond};
-ghost use lib.ListN.{getD};
+ghost use Prim.Native.Nat.{_+_, _*_, _<_};
+ghost use mathlib.Core.Bool.{true, not, _&&_, cond};
+ghost use lib.Dec.{leb};
 ghost use Rattle.layout.specs.Below.{allBelow};
-ghost use Rattle.desk.specs.Desk.{isSealed};
-ghost use Rattle.desk.specs.Coherent.{countOk, numberOk, slotOk, zeroCopyB, coherentB};
+ghost use Rattle.desk.specs.Desk.{isActive, isSealed, startOf};
+ghost use Rattle.desk.specs.Coherent.{countOk, numberOk, slotOk, zeroCopyB, censusOf};
 ghost use Rattle.desk.specs.Strike.{struck, placePasses, struckPlaces, sessionPasses, entryPasses, struckEntry, quiet, zeroAt};
 use crate::session::is_idle;
+use crate::session::start_of;
 use crate::state::Desk;
 use crate::state::Phase;
 use crate::state::RecordCopy;
@@ -15,6 +17,9 @@ use crate::state::Session;
 
 // L: from this clock on nothing is sealed, and from this ceiling on nothing is opened.
 pub const LIMIT: u64 = 4_611_686_018_427_387_904;
+
+// What `census` gives of a desk that is not coherent.
+pub const INCOHERENT: usize = 17;
 
 // The most that the clock and the number of sealed sessions come to.
 const CLOCK_MOST: u64 = LIMIT + 16;
@@ -47,12 +52,13 @@ fn slot_ok(count: u64, slot: u64) -> bool
     (slot <= 1) & ((1 <= count) | (slot == 0))
 }
 
-fn sealed_one(p: Phase) -> u64
-    ensures { λ r. ⌜ r ≡ cond (isSealed p) 1 0 ⌝ }
+// What a session adds to the tally: 32 where it is active, 1 where it is sealed.
+fn tally_one(p: Phase) -> u64
+    ensures { λ r. ⌜ r ≡ cond (isActive p) 1 0 * 32 + cond (isSealed p) 1 0 ⌝ }
 {
     match p {
         Phase::Idle => 0,
-        Phase::Active(_) => 0,
+        Phase::Active(_) => 32,
         Phase::Sealed(_) => 1,
         Phase::Published(_) => 0,
     }
@@ -134,6 +140,7 @@ fn quiet_ok(e: Session) -> bool
     (count == 0) & (slot == 0) & z0 & z1 & z2 & z3
 }
 
+// Whether nothing is left of the holders.
 fn all_zero(h: &[u8; 256]) -> bool
     ensures { λ r. ⌜ r ≡ allBelow 256 (zeroAt (now (h .entry))) ⌝ }
 {
@@ -146,9 +153,35 @@ fn all_zero(h: &[u8; 256]) -> bool
     ok
 }
 
-// Whether the desk is coherent.
-pub fn coherent(d: Desk) -> bool
-    ensures { λ r. ⌜ r ≡ coherentB d ⌝ }
+// Whether nothing is left of the list.
+fn none_left(order: &[u8; 16]) -> bool
+    ensures { λ r. ⌜ r ≡ allBelow 16 (zeroAt (now (order .entry))) ⌝ }
+{
+    let mut ok = true;
+    let mut k: usize = 0;
+    while k < 16 {
+        ok = ok & (order[k] == 0);
+        k += 1;
+    }
+    ok
+}
+
+// Whether a session may stand in the list behind one with the start `last`: it is active, and its start is not below that.
+fn follows(p: Phase, last: u64) -> bool
+    ensures { λ r. ⌜ r ≡ isActive p && leb last (startOf p) ⌝ }
+{
+    match p {
+        Phase::Idle => false,
+        Phase::Active(start) => last <= start,
+        Phase::Sealed(_) => false,
+        Phase::Published(_) => false,
+    }
+}
+
+// The number of active sessions of a coherent desk; `INCOHERENT` of any other. All three passes stand here: a function that takes the desk
+// copies it.
+pub fn census(d: Desk) -> usize
+    ensures { λ r. ⌜ r ≡ censusOf d ⌝ }
 {
     let clock = d.clock;
     let n = d.n;
@@ -158,34 +191,62 @@ pub fn coherent(d: Desk) -> bool
         & ((1 <= n) & (n <= 256))
         & ((1 <= m) & (m <= 16));
     if !sizes {
-        return false;
+        return INCOHERENT;
     }
+    let sessions = d.sessions;
     let mut s: usize = 0;
     while s < 16 {
-        let e = d.sessions[s];
+        let e = sessions[s];
         let p = e.phase;
         let idle = is_idle(p);
         let quiet = quiet_ok(e);
         if !(!idle | quiet) {
-            return false;
+            return INCOHERENT;
         }
         s += 1;
     }
     let mut h = d.holders;
-    let mut sealed: u64 = 0;
+    let mut tally: u64 = 0;
     let mut t: usize = 0;
     while t < 16 {
-        let e = d.sessions[t];
+        let e = sessions[t];
         let p = e.phase;
         if !entry_ok(&mut h, clock, n, m, t, e) {
-            return false;
+            return INCOHERENT;
         }
-        let one = sealed_one(p);
-        sealed = sealed + one;
+        let one = tally_one(p);
+        tally = tally + one;
         t += 1;
     }
+    let sealed = tally % 32;
     if CLOCK_MOST < clock + sealed {
-        return false;
+        return INCOHERENT;
     }
-    all_zero(&h)
+    let active = (tally / 32) as usize;
+    let list = d.order;
+    let mut order = list;
+    let mut noted: [u8; 16] = [0; 16];
+    let mut last: u64 = 0;
+    let mut j: usize = 0;
+    while j < active {
+        let x = list[j] as usize;
+        if 16 <= x {
+            return INCOHERENT;
+        }
+        if noted[x] != 0 {
+            return INCOHERENT;
+        }
+        noted[x] = 1;
+        let e = sessions[x];
+        let p = e.phase;
+        if !follows(p, last) {
+            return INCOHERENT;
+        }
+        order[j] = 0;
+        last = start_of(p);
+        j += 1;
+    }
+    let marks = all_zero(&h);
+    let places = none_left(&order);
+    if marks & places { active } else { INCOHERENT }
 }

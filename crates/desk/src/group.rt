@@ -10,7 +10,8 @@ ghost use Rattle.layout.specs.Entries.{made, listed};
 ghost use Rattle.desk.specs.Desk.{isSealed};
 ghost use Rattle.desk.specs.Group.{member, groupEntries, groupReply, groupSaid};
 ghost use Rattle.desk.specs.Told.{publishTold};
-use crate::coherence::coherent;
+use crate::coherence::INCOHERENT;
+use crate::coherence::census;
 use crate::entering::entry_fault;
 use crate::publish::PublishAnswer;
 use crate::publish::PublishReply;
@@ -76,12 +77,20 @@ impl Desk {
             ≡ listed (groupEntries (now (image .entry)) self (length (now (trace .entry))) set) (now (trace .entry)) ⌝ }
         ensures told { λ r. ⌜ publishTold (r .answer) ≡ groupSaid (now (image .entry)) self (length (now (trace .entry))) set ⌝ }
     {
-        let sound = coherent(self);
+        let active = census(self);
         let clock = self.clock;
         let n = self.n;
         let m = self.m;
         // session 0 of a coherent desk is below M: no 4 here
-        let fault = entry_fault(image, sound, clock, n, m, 48 <= trace.len(), 0);
+        let fault = entry_fault(
+            image,
+            active < INCOHERENT,
+            clock,
+            n,
+            m,
+            48 <= trace.len(),
+            0,
+        );
         if fault != 0 {
             return gives(self, PublishAnswer::Refused(fault), 0);
         }

@@ -5,7 +5,8 @@ ghost use lib.ListN.{length};
 ghost use Rattle.layout.specs.Entries.{made, listed};
 ghost use Rattle.desk.specs.Publish.{publishEntries, publishReply, publishSaid};
 ghost use Rattle.desk.specs.Told.{publishTold};
-use crate::coherence::coherent;
+use crate::coherence::INCOHERENT;
+use crate::coherence::census;
 use crate::entering::entry_fault;
 use crate::session::is_sealed;
 use crate::session::with_phase;
@@ -42,11 +43,19 @@ impl Desk {
             ≡ listed (publishEntries (now (image .entry)) self (length (now (trace .entry))) session) (now (trace .entry)) ⌝ }
         ensures told { λ r. ⌜ publishTold (r .answer) ≡ publishSaid (now (image .entry)) self (length (now (trace .entry))) session ⌝ }
     {
-        let sound = coherent(self);
+        let active = census(self);
         let clock = self.clock;
         let n = self.n;
         let m = self.m;
-        let fault = entry_fault(image, sound, clock, n, m, 48 <= trace.len(), session);
+        let fault = entry_fault(
+            image,
+            active < INCOHERENT,
+            clock,
+            n,
+            m,
+            48 <= trace.len(),
+            session,
+        );
         if fault != 0 {
             return gives(self, PublishAnswer::Refused(fault), 0);
         }

@@ -1,9 +1,10 @@
 // A session entry: what phase it is in, and how it is left idle. These are public for the crate above. `unmark` asks for at most 4 copies,
-// of records below 256, as the entries of a coherent desk have.
+// of records below 256, as the entries of a coherent desk have, and `leave` for a list that has the session, as a coherent desk's has every
+// active one.
 ghost use mathlib.Core.Path.{_≡_};
 ghost use Prim.Native.Nat.{ℕ, _≤_, _<_};
 ghost use lib.ListN.{getD};
-ghost use Rattle.desk.specs.Desk.{isIdle, isActive, isSealed, isPublished, noCopy, idleSession, withPhase, unmarked};
+ghost use Rattle.desk.specs.Desk.{isIdle, isActive, isSealed, isPublished, startOf, noCopy, idleSession, withPhase, unmarked, without, ListedAt};
 use crate::state::Phase;
 use crate::state::RecordCopy;
 use crate::state::Session;
@@ -52,6 +53,18 @@ pub fn is_published(p: Phase) -> bool
     }
 }
 
+// The start of an active session, 0 of any other.
+pub fn start_of(p: Phase) -> u64
+    ensures { λ r. ⌜ r ≡ startOf p ⌝ }
+{
+    match p {
+        Phase::Idle => 0,
+        Phase::Active(start) => start,
+        Phase::Sealed(_) => 0,
+        Phase::Published(_) => 0,
+    }
+}
+
 pub fn idle_session() -> Session
     ensures { λ r. ⌜ r ≡ idleSession ⌝ }
 {
@@ -93,4 +106,22 @@ pub fn unmark(holders: &mut [u8; 256], copies: [RecordCopy; 4], count: u64)
         holders[k] = 0;
         j += 1;
     }
+}
+
+// Takes a session out of the list, of which the first `active` places are in use: from the end on each session moves up, until this one is
+// in hand.
+pub fn leave(mut order: [u8; 16], session: u8, active: usize) -> [u8; 16]
+    requires { ⌜ (active ≤ 16) × ((p : ℕ) × ListedAt order session active p) ⌝ }
+    ensures { λ r. ⌜ r ≡ without session order ⌝ }
+{
+    let mut j = active - 1;
+    let mut last = order[j];
+    while last != session {
+        j -= 1;
+        let x = order[j];
+        order[j] = last;
+        last = x;
+    }
+    order[active - 1] = 0;
+    order
 }

@@ -23,11 +23,13 @@ pub struct Session {
 }
 
 // The desk, document 01's term for the volatile transaction table: the clock, the numbers of records and sessions, the holder mark of each
-// record (0: none, s + 1: session s), and the session entries.
+// record (0: none, s + 1: session s), the session entries, and the list of active sessions, from the one that began first on, with 0 in the
+// places that are not used.
 pub struct Desk {
     pub clock: u64,
     pub n: u64,
     pub m: u64,
     pub holders: [u8; 256],
     pub sessions: [Session; 16],
+    pub order: [u8; 16],
 }

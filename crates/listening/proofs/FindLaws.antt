@@ -11,11 +11,10 @@ use Rattle.layout.specs.Below.{lowest}
 use Rattle.layout.specs.Checks.{first, answered}
 use Rattle.layout.specs.Told.{Told}
 use Rattle.layout.proofs.ChecksLaws.{answered-zero, answered-not, answered-map, cond-map}
-use Rattle.desk.specs.Desk.{sessionAt, copyAt}
+use Rattle.desk.specs.Desk.{sessionAt, copyAt, startOf}
 use Rattle.desk.specs.declared.state.Desk.{Desk}
 use Rattle.desk.specs.declared.state.Session.{Session}
 use Rattle.snapshot.specs.Own.{ownPlace}
-use Rattle.snapshot.specs.Read.{startOf}
 use Rattle.snapshot.specs.declared.reading.ReadReply.{ReadReply}
 use Rattle.snapshot.proofs.ReadLaws.{seen-done}
 use Rattle.reels.specs.Reel.{shelfB}

@@ -8,9 +8,9 @@ ghost use Rattle.listening.specs.Find.{seenMatches, findGives, findReply
 ghost use Rattle.listening.specs.Told.{findTold};
 use crate::listener::listener_fault;
 use desk::Desk;
+use desk::start_of;
 use snapshot::marked_session;
 use snapshot::seen;
-use snapshot::start_of;
 
 pub enum FindAnswer {
     Refused(u64),

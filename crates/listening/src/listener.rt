@@ -2,7 +2,8 @@
 ghost use mathlib.Core.Path.{_≡_};
 ghost use Rattle.listening.specs.Listener.{holdsCopies, listenerFault};
 use desk::Desk;
-use desk::coherent;
+use desk::INCOHERENT;
+use desk::census;
 use desk::entry_fault;
 use desk::is_active;
 
@@ -22,11 +23,11 @@ pub fn holds_copies(desk: Desk, session: u64) -> bool
 pub fn listener_fault(image: &[u64], desk: Desk, room: bool, session: u64) -> u64
     ensures { λ r. ⌜ r ≡ listenerFault (now (image .entry)) desk room session ⌝ }
 {
-    let sound = coherent(desk);
+    let active = census(desk);
     let clock = desk.clock;
     let n = desk.n;
     let m = desk.m;
-    let fault = entry_fault(image, sound, clock, n, m, room, session);
+    let fault = entry_fault(image, active < INCOHERENT, clock, n, m, room, session);
     if fault != 0 {
         return fault;
     }

@@ -7,7 +7,7 @@ use crate::desk_words::desk_of;
 use crate::digest::digest;
 use crate::input::within;
 
-fn call_of(words: [u64; 2454]) -> Call {
+fn call_of(words: [u64; 2470]) -> Call {
     let four = [words[5], words[6], words[7], words[8]];
     Call {
         number: words[0],
@@ -36,10 +36,10 @@ fn shown(has: bool, digest: u64) -> u64 {
 }
 
 // The digests of the image and of the trace.
-fn digests(words: [u64; 2454], trace: [u64; 64]) -> [u64; 2] {
+fn digests(words: [u64; 2470], trace: [u64; 64]) -> [u64; 2] {
     let size = within(words[9], 64);
-    let end = 654 + within(words[10], 1800);
-    [digest(&words[654..end]), digest(&trace[0..size])]
+    let end = 670 + within(words[10], 1800);
+    [digest(&words[670..end]), digest(&trace[0..size])]
 }
 
 // The fields of a case whose call is made, by its number, what it answered, and the digests of the image and the trace that it left.
@@ -67,12 +67,12 @@ fn fields(call: u64, r: Answered, digests: [u64; 2]) -> [u64; 11] {
 }
 
 // Makes the call of a case and answers its fields.
-pub fn run(mut words: [u64; 2454]) -> [u64; 11] {
+pub fn run(mut words: [u64; 2470]) -> [u64; 11] {
     let size = within(words[9], 64);
-    let end = 654 + within(words[10], 1800);
+    let end = 670 + within(words[10], 1800);
     let mut trace = marked_trace();
-    let desk = desk_of(&words[11..654]);
+    let desk = desk_of(&words[11..670]);
     let call = call_of(words);
-    let r = make(&mut words[654..end], desk, &mut trace[0..size], call);
+    let r = make(&mut words[670..end], desk, &mut trace[0..size], call);
     fields(words[0], r, digests(words, trace))
 }

@@ -1,4 +1,4 @@
-// A desk as 643 words: a desk out of them, and their digest. The functions that have a `requires` are for use inside this crate.
+// A desk as 659 words: a desk out of them, and their digest. The functions that have a `requires` are for use inside this crate.
 ghost use mathlib.Core.Path.{_≡_};
 ghost use Prim.Native.Nat.{_+_, _≤_};
 ghost use lib.ListN.{length};
@@ -46,7 +46,7 @@ fn session_of(w: &[u64], at: usize) -> Session
 }
 
 fn sessions_of(w: &[u64]) -> [Session; 16]
-    requires { ⌜ length (now w) ≡ 643 ⌝ }
+    requires { ⌜ length (now w) ≡ 659 ⌝ }
 {
     let idle = desk::idle_session();
     let mut sessions = [idle; 16];
@@ -60,7 +60,7 @@ fn sessions_of(w: &[u64]) -> [Session; 16]
 }
 
 fn marks_of(w: &[u64]) -> [u8; 256]
-    requires { ⌜ length (now w) ≡ 643 ⌝ }
+    requires { ⌜ length (now w) ≡ 659 ⌝ }
 {
     let mut marks: [u8; 256] = [0; 256];
     let mut i: usize = 0;
@@ -71,18 +71,32 @@ fn marks_of(w: &[u64]) -> [u8; 256]
     marks
 }
 
+fn order_of(w: &[u64]) -> [u8; 16]
+    requires { ⌜ length (now w) ≡ 659 ⌝ }
+{
+    let mut order: [u8; 16] = [0; 16];
+    let mut i: usize = 0;
+    while i < 16 {
+        order[i] = (w[643 + i] % 256) as u8;
+        i += 1;
+    }
+    order
+}
+
 // The desk that the words stand for.
 pub fn desk_of(w: &[u64]) -> Desk
-    requires { ⌜ length (now w) ≡ 643 ⌝ }
+    requires { ⌜ length (now w) ≡ 659 ⌝ }
 {
     let marks = marks_of(w);
     let sessions = sessions_of(w);
+    let order = order_of(w);
     Desk {
         clock: w[0],
         n: w[1],
         m: w[2],
         holders: marks,
         sessions: sessions,
+        order: order,
     }
 }
 
@@ -133,10 +147,24 @@ fn mix_marks(start: u64, marks: [u8; 256]) -> u64 {
     d
 }
 
+fn mix_order(start: u64, order: [u8; 16]) -> u64 {
+    let mut d = start;
+    let mut i: usize = 0;
+    while i < 16 {
+        d = mix(d, order[i] as u64);
+        i += 1;
+    }
+    d
+}
+
 // The digest of the words that a desk stands for.
 pub fn desk_digest(desk: Desk) -> u64 {
     let sizes = [desk.clock, desk.n, desk.m];
     let marks = desk.holders;
     let sessions = desk.sessions;
-    mix_sessions(mix_marks(mix_words(643, &sizes), marks), sessions)
+    let order = desk.order;
+    mix_order(
+        mix_sessions(mix_marks(mix_words(659, &sizes), marks), sessions),
+        order,
+    )
 }

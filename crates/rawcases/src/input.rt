@@ -3,7 +3,7 @@ ghost use Prim.Native.Nat.{_+_, _≤_, _<_};
 
 // The words of a case, and the number of bytes that it takes.
 pub struct Case {
-    pub words: [u64; 2454],
+    pub words: [u64; 2470],
     pub size: usize,
 }
 
@@ -89,7 +89,7 @@ pub fn within(size: u64, most: usize) -> usize
 }
 
 // Whether the call is known and the lengths of the trace and the image are within their bounds.
-fn sound(words: [u64; 2454]) -> bool {
+fn sound(words: [u64; 2470]) -> bool {
     (words[0] <= 20) & (words[9] <= 64) & (words[10] <= 1800)
 }
 
@@ -98,16 +98,16 @@ pub fn unpack(input: &[u8; 65536], from: usize, have: usize) -> Case
     requires { ⌜ (from ≤ have) × (have ≤ 65536) ⌝ }
     ensures { λ r. ⌜ from + r .size ≤ have ⌝ }
 {
-    let mut words: [u64; 2454] = [0; 2454];
+    let mut words: [u64; 2470] = [0; 2470];
     let mut n: usize = 0;
-    let mut end: usize = 654;
+    let mut end: usize = 670;
     let mut at = from;
     while n < end && at < have {
         let t = token_at(input, at);
         words[n] = t.word;
         n += t.times;
         at += t.size;
-        end = 654 + within(words[10], 1800);
+        end = 670 + within(words[10], 1800);
     }
     let good = (n == end) & sound(words);
     let size = if good && at <= have { at - from } else { 0 };

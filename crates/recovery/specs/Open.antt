@@ -1,6 +1,6 @@
 -- Open (document 01, and document 02's Req 05): all slots empty; it gives a desk whose clock is the ceiling + 1, all idle, and raises the
 -- ceiling above that clock. Checks 1, 3, 11 and then 10, which asks for a ceiling below L; refused, it gives a desk with clock, N and M 0, all
--- idle, unmarked.
+-- idle, unmarked, nobody listed.
 use Prim.Native.Nat.{ℕ, _+_, _*_}
 use mathlib.Core.Bool.{not}
 use mathlib.Core.List.{List, []}
@@ -18,7 +18,8 @@ use Rattle.recovery.specs.declared.opening.OpenReply.{OpenReply}
 use Rattle.layout.specs.Told.{Told, refusal, ok}
 
 abbrev pub freshDesk : ℕ → ℕ → ℕ → Desk
-freshDesk clock n m = record { clock = clock; n = n; m = m; holders = replicate 256 0; sessions = replicate 16 idleSession }
+freshDesk clock n m =
+    record { clock = clock; n = n; m = m; holders = replicate 256 0; sessions = replicate 16 idleSession; order = replicate 16 0 }
 
 -- `len` is the length of the trace
 unfoldable pub openFault : List ℕ → ℕ → ℕ

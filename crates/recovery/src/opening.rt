@@ -19,7 +19,7 @@ pub struct OpenReply {
     pub desk: Desk,
 }
 
-// A desk with this clock, N and M, all idle, unmarked.
+// A desk with this clock, N and M, all idle, unmarked, nobody listed.
 fn fresh(clock: u64, n: u64, m: u64) -> Desk
     ensures { λ r. ⌜ r ≡ freshDesk clock n m ⌝ }
 {
@@ -30,6 +30,7 @@ fn fresh(clock: u64, n: u64, m: u64) -> Desk
         m: m,
         holders: [0; 256],
         sessions: [idle; 16],
+        order: [0; 16],
     }
 }
 

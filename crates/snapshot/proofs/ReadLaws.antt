@@ -7,10 +7,10 @@ use borrow.Author.Tests.{lt-ltb, le-ltb}
 use Rattle.layout.specs.Checks.{unless, first, answered}
 use Rattle.layout.proofs.ChecksLaws.{first-assoc, answered-refused, answered-passed}
 use Rattle.layout.specs.Image.{homeWords}
-use Rattle.desk.specs.Desk.{sessionAt, markAt, copyAt, isActive}
+use Rattle.desk.specs.Desk.{sessionAt, markAt, copyAt, isActive, startOf}
 use Rattle.desk.specs.declared.state.Desk.{Desk}
 use Rattle.snapshot.specs.Own.{ownPlace}
-use Rattle.snapshot.specs.Read.{readFault, startOf, holderEntry, copyShown, sight, sightOf, sightAt, readGives, readRefused, readDone, readReply}
+use Rattle.snapshot.specs.Read.{readFault, holderEntry, copyShown, sight, sightOf, sightAt, readGives, readRefused, readDone, readReply}
 use Rattle.snapshot.specs.declared.reading.ReadAnswer.the-variants.{Own, Copy, Home}
 use Rattle.snapshot.specs.declared.seeing.Sight.{Sight}
 use Rattle.desk.proofs.RecordEntered.{recordFault}

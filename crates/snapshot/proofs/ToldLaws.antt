@@ -5,12 +5,12 @@ use mathlib.Core.Path.{_≡_, refl}
 use mathlib.Core.List.{List}
 use lib.Dec.{ltb}
 use Rattle.layout.proofs.ChecksLaws.{answered-map, cond-map}
-use Rattle.desk.specs.Desk.{sessionAt}
+use Rattle.desk.specs.Desk.{sessionAt, startOf}
 use Rattle.desk.specs.declared.state.Desk.{Desk}
 use Rattle.layout.specs.Told.{Told, own, copied, home, isRefusal, wordsTold}
 use Rattle.snapshot.specs.Own.{ownPlace}
 use Rattle.snapshot.specs.Told.{readTold, writeTold}
-use Rattle.snapshot.specs.Read.{startOf, copyShown, sight, sightOf, readGives, readRefused, readDone, readReply, doneSaid, readSaid}
+use Rattle.snapshot.specs.Read.{copyShown, sight, sightOf, readGives, readRefused, readDone, readReply, doneSaid, readSaid}
 use Rattle.snapshot.specs.Write.{writeRefused, writeDone, writeReply, writeSaid}
 use Rattle.snapshot.specs.declared.reading.ReadAnswer.the-variants.{Own, Copy, Home}
 use Rattle.snapshot.specs.declared.reading.ReadReply.{ReadReply}

@@ -6,7 +6,7 @@ use mathlib.Core.List.{List}
 use lib.Dec.{leb, ltb, eqb}
 use Rattle.layout.specs.Checks.{unless, first, answered}
 use Rattle.layout.specs.Image.{homeWords}
-use Rattle.desk.specs.Desk.{sessionAt, markAt, copyAt, isActive}
+use Rattle.desk.specs.Desk.{sessionAt, markAt, copyAt, isActive, startOf}
 use Rattle.desk.specs.declared.state.Phase.{Phase}
 use Rattle.desk.specs.declared.state.Phase.the-variants.{Idle, Active, Sealed, Published}
 use Rattle.desk.specs.declared.state.Session.{Session}
@@ -21,13 +21,6 @@ use Rattle.layout.specs.Told.{Told, refusal, own, copied, home}
 
 unfoldable pub readFault : List ℕ → Desk → ℕ → ℕ → ℕ
 readFault img d s r = first (imageFault img d true s) (first (unless (ltb r (d .n)) 5) (unless (isActive (sessionAt d s .phase)) 6))
-
--- the start number of an active session
-abbrev pub startOf : Phase → ℕ
-startOf Idle = 0
-startOf (Active b) = b
-startOf (Sealed p) = 0
-startOf (Published e) = 0
 
 -- published, with end at most this start
 abbrev pub shownAt : ℕ → Phase → Bool

@@ -1,6 +1,6 @@
 -- Write of four words (document 01): active only. An own copy is overwritten. Otherwise the record is marked and copied. At the first copy
--- the lowest empty slot of the session is reserved. Checks 1, 2, 4, 5, 6, 7, 8, 9; 7 leaves the caller idle with its marks and copies
--- dropped.
+-- the lowest empty slot of the session is reserved. Checks 1, 2, 4, 5, 6, 7, 8, 9; 7 leaves the caller idle, its marks and copies
+-- dropped, out of the list.
 use Prim.Native.Nat.{ℕ, _+_, _-_}
 use mathlib.Core.Bool.{Bool, true, _||_, cond}
 use mathlib.Core.List.{List}
@@ -44,7 +44,7 @@ writeFault img d s r =
 abbrev pub writeSays : Desk → WriteAnswer → WriteReply
 writeSays d a = record { answer = a; desk = d }
 
--- refusal 7 names the holder, and leaves the caller idle with its marks and copies dropped
+-- refusal 7 names the holder, and leaves the caller idle, its marks and copies dropped, out of the list
 unfoldable pub writeRefused : Desk → ℕ → ℕ → ℕ → WriteReply
 writeRefused d s r k = cond (eqb k 7) (writeSays (dropped d s) (Taken (markAt d r - 1))) (writeSays d (Refused k))
 
@@ -65,7 +65,7 @@ reserved count free slot = cond (eqb count 0) free slot
 abbrev pub copied : List ℕ → Desk → ℕ → ℕ → List ℕ → Desk
 copied img d s r ws =
     changed d s (extended (sessionAt d s) r ws (reserved (sessionAt d s .count) (emptySlot img (d .n) s) (sessionAt d s .slot)))
-    (d .clock) (set (d .holders) r (s + 1))
+    (d .clock) (set (d .holders) r (s + 1)) (d .order)
 
 abbrev pub writeDone : List ℕ → Desk → ℕ → ℕ → List ℕ → WriteReply
 writeDone img d s r ws = writeSays (cond (ownsB d s r) (putSession d s (overwritten (sessionAt d s) r ws)) (copied img d s r ws)) Ok

@@ -11,7 +11,6 @@ pub use reading::read;
 pub use seeing::Sight;
 pub use seeing::marked_session;
 pub use seeing::seen;
-pub use seeing::start_of;
 pub use writing::WriteAnswer;
 pub use writing::WriteReply;
 pub use writing::write;

@@ -5,11 +5,12 @@ ghost use Rattle.snapshot.specs.Told.{readTold};
 use crate::copies::own_place;
 use crate::seeing::marked_session;
 use crate::seeing::seen;
-use crate::seeing::start_of;
 use desk::Desk;
-use desk::coherent;
+use desk::INCOHERENT;
+use desk::census;
 use desk::is_active;
 use desk::record_fault;
+use desk::start_of;
 
 pub enum ReadAnswer {
     Refused(u64),
@@ -39,11 +40,11 @@ pub fn read(image: &[u64], desk: Desk, session: u64, rec: u64) -> ReadReply
     ensures reply { λ r. ⌜ r ≡ readReply (now (image .entry)) desk session rec ⌝ }
     ensures told { λ r. ⌜ readTold (r .answer) (r .words) ≡ readSaid (now (image .entry)) desk session rec ⌝ }
 {
-    let sound = coherent(desk);
+    let active = census(desk);
     let clock = desk.clock;
     let n = desk.n;
     let m = desk.m;
-    let fault = record_fault(image, sound, clock, n, m, session, rec);
+    let fault = record_fault(image, active < INCOHERENT, clock, n, m, session, rec);
     if fault != 0 {
         return gives(desk, ReadAnswer::Refused(fault), [0; 4]);
     }

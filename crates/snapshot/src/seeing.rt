@@ -3,7 +3,7 @@
 ghost use mathlib.Core.Path.{_≡_};
 ghost use Prim.Native.Nat.{_-_, _<_};
 ghost use Rattle.snapshot.specs.Own.{ownPlace};
-ghost use Rattle.snapshot.specs.Read.{startOf, shownAt, sightOf};
+ghost use Rattle.snapshot.specs.Read.{shownAt, sightOf};
 use crate::copies::own_place;
 use crate::reading::ReadAnswer;
 use desk::Phase;
@@ -13,18 +13,6 @@ use desk::Session;
 pub struct Sight {
     pub answer: ReadAnswer,
     pub words: [u64; 4],
-}
-
-// The start number of an active session.
-pub fn start_of(p: Phase) -> u64
-    ensures { λ r. ⌜ r ≡ startOf p ⌝ }
-{
-    match p {
-        Phase::Idle => 0,
-        Phase::Active(start) => start,
-        Phase::Sealed(_) => 0,
-        Phase::Published(_) => 0,
-    }
 }
 
 // Whether a session's copies are shown to a reader with this start.

@@ -6,11 +6,13 @@ ghost use Rattle.snapshot.specs.Told.{writeTold};
 ghost use Rattle.snapshot.specs.Own.{ownPlace};
 use crate::copies::own_place;
 use desk::Desk;
+use desk::INCOHERENT;
 use desk::RecordCopy;
 use desk::Session;
-use desk::coherent;
+use desk::census;
 use desk::idle_session;
 use desk::is_active;
+use desk::leave;
 use desk::record_fault;
 use desk::unmark;
 
@@ -100,11 +102,11 @@ pub fn write(image: &[u64], mut desk: Desk, session: u64, rec: u64, words: [u64;
     ensures reply { λ r. ⌜ r ≡ writeReply (now (image .entry)) desk session rec words ⌝ }
     ensures told { λ r. ⌜ writeTold (r .answer) ≡ writeSaid (now (image .entry)) desk session rec ⌝ }
 {
-    let sound = coherent(desk);
+    let active = census(desk);
     let clock = desk.clock;
     let n = desk.n;
     let m = desk.m;
-    let fault = record_fault(image, sound, clock, n, m, session, rec);
+    let fault = record_fault(image, active < INCOHERENT, clock, n, m, session, rec);
     if fault != 0 {
         return gives(desk, WriteAnswer::Refused(fault));
     }
@@ -127,6 +129,8 @@ pub fn write(image: &[u64], mut desk: Desk, session: u64, rec: u64, words: [u64;
     if blocked == 7 {
         let copies = e.copies;
         unmark(&mut desk.holders, copies, count);
+        let order = desk.order;
+        desk.order = leave(order, session as u8, active);
         desk.sessions[i] = idle_session();
         return gives(desk, WriteAnswer::Taken(mark as u64 - 1));
     }

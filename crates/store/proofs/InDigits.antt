@@ -11,7 +11,7 @@ use Rattle.journal.specs.Changes.{changesOf, changesBelow}
 use Rattle.journal.specs.Lengths.{finishLength, settleLength, recoverLength, sealLength, replayLength}
 use Rattle.journal.specs.Log.{pairsWrites, denoted, bodyWrites, shortWrites, unsoundB, sharedB}
 use Rattle.desk.specs.Coherent.{freshB, placesOk, sessionOk, copiesB, coherentB}
-use Rattle.desk.specs.Desk.{unmarked}
+use Rattle.desk.specs.Desk.{without, unmarked}
 use Rattle.desk.specs.Entering.{entryFault}
 use Rattle.desk.specs.Publish.{publishFault, publishEntries, publishReply}
 use Rattle.desk.specs.declared.state.Phase.the-variants.{Active, Sealed, Published}
@@ -58,7 +58,7 @@ coherent =
 pub in-digits : InDigits
 unfolding anyBelow lowest first answered homesWrites shapedB occupiedB layFault layAnswer laidImage oldestOf
     finishLength settleLength recoverLength sealLength replayLength changesOf changesBelow
-    pairsWrites denoted bodyWrites shortWrites unsoundB sharedB unmarked entryFault
+    pairsWrites denoted bodyWrites shortWrites unsoundB sharedB without unmarked entryFault
     publishFault publishEntries publishReply copyFault writeFault writeReply finishFault finishEntries finishReply
     settleFault oldestReader settleEntries settleReply reclaimFault reclaimEntries reclaimReply
     openFault openEntries openReply unsoundPlace tiedBelow tiesB recoverFault firstLog recoverEntries recoverRefused recoverReply

@@ -311,10 +311,10 @@ before =
 
 -- ---- desks
 
--- a desk with these marks of records 0 and 1 (0 none, 1 session 0) and this entry of session 0
+-- a desk with these marks of records 0 and 1 (0 none, 1 session 0) and this entry of session 0; its list is zero, session 0 active or not
 abbrev pub deskOf : ℕ → ℕ → ℕ → List ℕ → Session → Desk
 deskOf clock n m marks e =
-    record { clock = clock; n = n; m = m; holders = marks ++ replicate 254 0; sessions = e ∷ replicate 15 idleSession }
+    record { clock = clock; n = n; m = m; holders = marks ++ replicate 254 0; sessions = e ∷ replicate 15 idleSession; order = replicate 16 0 }
 
 -- a session with one copy, of record 0, and its slot; and with two, of record 1 and then of record 0
 abbrev pub oneCopy : Phase → ℕ → List ℕ → Session
@@ -371,6 +371,7 @@ fourDesk clock p =
       m = 1;
       holders = (1 ∷ 1 ∷ 1 ∷ 1 ∷ []) ++ replicate 252 0;
       sessions = record { phase = p; count = 4; slot = 0; copies = fourCopies } ∷ replicate 15 idleSession;
+      order = replicate 16 0;
     }
 
 -- N 1, M 2, both sessions idle

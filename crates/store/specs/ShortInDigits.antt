@@ -244,7 +244,7 @@ twoEdits vs ws =
 -- N 4: these marks of records 0 to 3, and this many copies
 abbrev pub moreEdits : List ℕ → ℕ → List RecordCopy → Desk
 moreEdits marks count copies =
-    record { clock = 7; n = 4; m = 1; holders = marks ++ replicate 252 0; sessions = edits count copies ∷ replicate 15 idleSession }
+    record { clock = 7; n = 4; m = 1; holders = marks ++ replicate 252 0; sessions = edits count copies ∷ replicate 15 idleSession; order = replicate 16 0 }
 
 -- copies of records 3, 0 and 2, seven words and eight words changed
 abbrev pub sevenCopies : List RecordCopy

@@ -1,6 +1,7 @@
 -- Document 02, Req 06 in numbers: what a group tells, lists and leaves, and what is read before it and behind it.
 use Prim.Native.Nat.{ℕ, _+_}
 use mathlib.Core.Path.{_≡_}
+use mathlib.Core.Bool.{cond}
 use mathlib.Core.List.{List, [], _∷_}
 use lib.ListN.{set, replicate}
 use Rattle.layout.specs.Entries.{store, fence}
@@ -8,7 +9,7 @@ use Rattle.layout.specs.Lay.{emptyImage}
 use Rattle.layout.specs.Told.{Told, refusal, start, copied, home, endedAt}
 use Rattle.desk.specs.Begin.{beginReply}
 use Rattle.desk.specs.Coherent.{limit}
-use Rattle.desk.specs.Desk.{zeroCopy, idleSession, sessionAt}
+use Rattle.desk.specs.Desk.{zeroCopy, idleSession, sessionAt, isActive}
 use Rattle.desk.specs.Group.{groupReply, groupEntries}
 use Rattle.desk.specs.Told.{beginTold, publishTold}
 use Rattle.desk.specs.declared.state.Phase.{Phase}
@@ -31,7 +32,7 @@ copyOf r = record { rec = r; words = (r + 5) ∷ 6 ∷ 7 ∷ 8 ∷ [] }
 abbrev pub holding : ℕ → Phase → Session
 holding s p = record { phase = p; count = 1; slot = 0; copies = copyOf s ∷ zeroCopy ∷ zeroCopy ∷ zeroCopy ∷ [] }
 
--- sessions 0 and 2 are sealed, session 1 is in this phase; all three hold their records
+-- sessions 0 and 2 are sealed, session 1 is in this phase, and listed where it is active; all three hold their records
 abbrev pub vanDesk : ℕ → Phase → Desk
 vanDesk clock p =
     record {
@@ -40,6 +41,7 @@ vanDesk clock p =
       m = 3;
       holders = 1 ∷ 2 ∷ 3 ∷ replicate 253 0;
       sessions = holding 0 (Sealed 1) ∷ holding 1 p ∷ holding 2 (Sealed 2) ∷ replicate 13 idleSession;
+      order = cond (isActive p) 1 0 ∷ replicate 15 0;
     }
 
 -- the same without session 1
@@ -51,6 +53,7 @@ twoHold =
       m = 3;
       holders = 1 ∷ 0 ∷ 3 ∷ replicate 253 0;
       sessions = holding 0 (Sealed 1) ∷ idleSession ∷ holding 2 (Sealed 2) ∷ replicate 13 idleSession;
+      order = replicate 16 0;
     }
 
 -- what a group tells with word 3 at w and a trace of len words
@@ -91,6 +94,7 @@ pub record VanLoads : Type 0 where
         m = 3;
         holders = 1 ∷ 2 ∷ 3 ∷ replicate 253 0;
         sessions = holding 0 (Published 4) ∷ holding 1 (Published 4) ∷ holding 2 (Published 4) ∷ replicate 13 idleSession;
+        order = replicate 16 0;
       }
   pub three-told : groupTells 9 allSealed 48 7 ≡ endedAt 4
   pub one-told : groupTells 9 allSealed 48 4 ≡ endedAt 4

@@ -6,6 +6,7 @@ use borrow.Author.Tests.{leb-true}
 use Rattle.layout.proofs.TraceLaws.{and-then, fenced}
 use Rattle.desk.specs.Entering.{imageFault}
 use Rattle.layout.specs.Checks.{roomFor}
+use Rattle.desk.proofs.Facts.{census-coherent}
 use Rattle.desk.proofs.Entered.{Entered, entered}
 use Rattle.layout.proofs.Stored.{stored-none, stored-run}
 use Rattle.commit.proofs.ReclaimLaws.{own-slot, reclaim-refused, reclaim-none, reclaim-held, reclaim-clears}
@@ -16,7 +17,7 @@ use Rattle.commit.proofs.reclaiming.reclaim.Tie as tie
 
 -- the common checks have passed
 passed : (c : tie.Else1) → imageFault (c .before .before .before .before .before .before .args .image .now) (c .before .before .before .before .before .before .args .t2) (roomFor (length (c .before .before .before .before .before .before .args .trace .now))) (c .before .before .before .before .before .before .args .session) ≡ 0
-passed c = sym (rw (c .before .before .before .coherent .ensures) at (c .before .entry-fault .ensures)) ∙ c .if1 .left
+passed c = sym (rw ((c .before .before .before) .census .ensures, census-coherent _) at (c .before .entry-fault .ensures)) ∙ c .if1 .left
 
 facts : (c : tie.Else1) → Entered (c .before .before .before .before .before .before .args .image .now) (c .before .before .before .before .before .before .args .t2) (roomFor (length (c .before .before .before .before .before .before .args .trace .now))) (c .before .before .before .before .before .before .args .session)
 facts c = entered _ _ _ _ (passed c)
@@ -30,8 +31,8 @@ own c =
     let a = c .before .before .before .before .before .before .before .before .before .before .before .args in
     own-slot (a .image .now) (a .t2) (length (a .trace .now)) (a .session) (passed (c .before .before .before .before .before)) (c .before .before .older-slot .result) (c .before .before .older-slot .ensures) (c .if2 .left)
 
-coherent-requires : tie.Need-coherent-requires
-coherent-requires c κs = search needs
+census-requires : tie.Need-census-requires
+census-requires c κs = search needs
 
 entry-fault-requires : tie.Need-entry-fault-requires
 entry-fault-requires c κs = search needs
@@ -45,7 +46,7 @@ same-length c = search needs
 returns : tie.Need-returns
 returns c =
     let a = (c .before .before .before .before .before .before .before) .args in
-    let g = reclaim-refused (a .image .now) (a .t2) (length (a .trace .now)) (a .session) ((c .before .before) .entry-fault .result) (rw ((c .before .before .before .before) .coherent .ensures) at ((c .before .before) .entry-fault .ensures)) ((c .before) .if1 .taken) in
+    let g = reclaim-refused (a .image .now) (a .t2) (length (a .trace .now)) (a .session) ((c .before .before) .entry-fault .result) (rw ((c .before .before .before .before) .census .ensures, census-coherent _) at ((c .before .before) .entry-fault .ensures)) ((c .before) .if1 .taken) in
     reclaim-tells _ _ _ _ (c .gives .ensures ∙ sym (g .replies), stored-none _ _ _ (g .lists))
 
 mul-e : tie.Need-mul-e
@@ -123,7 +124,7 @@ pub reclaim-spec : {M : Type 1} → statement M
 reclaim-spec =
     tie.close
     (tie.spec
-    coherent-requires
+    census-requires
     entry-fault-requires
     gives-requires
     same-length

@@ -6,6 +6,7 @@ use Rattle.layout.specs.Checks.{first}
 use Rattle.layout.proofs.ChecksLaws.{first-not}
 use Rattle.desk.specs.Desk.{sessionAt, isActive}
 use Rattle.desk.specs.Entering.{imageFault}
+use Rattle.desk.proofs.Facts.{census-coherent}
 use Rattle.desk.proofs.Entered.{Entered, entered}
 use Rattle.listening.specs.Listener.{listenerFault}
 use borrow.Author.Needs.{needs}
@@ -14,7 +15,7 @@ use Rattle.listening.proofs.listener.listener_fault.Tie as tie
 
 -- the number that the checks before the phase's give
 fault-is : (c : tie.After-entry-fault) → let a = c .before .before .before .args in c .entry-fault .result ≡ imageFault (a .image .now) (a .t2) (a .room) (a .session)
-fault-is c = rw (c .before .coherent .ensures) at (c .entry-fault .ensures)
+fault-is c = rw ((c .before) .census .ensures, census-coherent _) at (c .entry-fault .ensures)
 
 -- they have passed
 passed : (c : tie.Else1) → let a = c .before .before .before .before .args in imageFault (a .image .now) (a .t2) (a .room) (a .session) ≡ 0
@@ -26,8 +27,8 @@ inside c = entered _ _ _ _ (passed c)
 active : (c : tie.Else2) → let a = c .before .before .before .before .before .before .before .args in isActive (sessionAt (a .t2) (a .session) .phase) ≡ true
 active c = sym (c .before .is-active .ensures) ∙ not-false _ (c .if2 .left)
 
-coherent-requires : tie.Need-coherent-requires
-coherent-requires c κs = search needs
+census-requires : tie.Need-census-requires
+census-requires c κs = search needs
 
 entry-fault-requires : tie.Need-entry-fault-requires
 entry-fault-requires c κs = search needs
@@ -61,7 +62,7 @@ pub listener-fault-spec : {M : Type 1} → statement M
 listener-fault-spec =
     tie.close
     (tie.spec
-    coherent-requires
+    census-requires
     entry-fault-requires
     returns
     mul-e

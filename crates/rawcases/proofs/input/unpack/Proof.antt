@@ -6,7 +6,7 @@ use Rattle.rawcases.proofs.input.unpack.Statement.{statement}
 use Rattle.rawcases.proofs.input.unpack.Tie as tie
 
 abbrev Inv-loop : tie.InvT-loop
-Inv-loop input from have words₀ n₀ end₀ at₀ words n end at = (n ≤ 2709) × (end ≤ 2454) × (from ≤ at) × (at ≤ have + 8)
+Inv-loop input from have words₀ n₀ end₀ at₀ words n end at = (n ≤ 2725) × (end ≤ 2470) × (from ≤ at) × (at ≤ have + 8)
 
 abbrev μ-loop : tie.MeasureT-loop
 μ-loop input from have words₀ n₀ end₀ at₀ words n end at = have + 8 - at

@@ -1,4 +1,5 @@
 use Rattle.snapshot.proofs.ReadLaws.{sight-by, read-refused, read-inactive, read-own, read-seen}
+use Rattle.desk.proofs.Facts.{census-coherent}
 use Rattle.desk.proofs.RecordEntered.{recordFault, RecordEntered, record-entered}
 use Rattle.snapshot.proofs.OwnPlace.{holder-small, holder-found}
 use Rattle.desk.specs.declared.state.Desk.{Desk}
@@ -13,7 +14,7 @@ use Rattle.snapshot.proofs.reading.read.Tie as tie
 
 -- the checks before the phase's have passed
 passed : (c : tie.Else1) → recordFault (c .before .before .before .before .args .image .now) (c .before .before .before .before .args .t2) (c .before .before .before .before .args .session) (c .before .before .before .before .args .rec) ≡ 0
-passed c = sym (rw (c .before .before .coherent .ensures) at (c .before .record-fault .ensures)) ∙ c .if1 .left
+passed c = sym (rw ((c .before .before) .census .ensures, census-coherent _) at (c .before .record-fault .ensures)) ∙ c .if1 .left
 
 facts : (c : tie.Else1) → RecordEntered (c .before .before .before .before .args .image .now) (c .before .before .before .before .args .t2) (c .before .before .before .before .args .session) (c .before .before .before .before .args .rec)
 facts c = record-entered _ _ _ _ (passed c)
@@ -31,8 +32,8 @@ desk-at c = c .before .before .before .before .before .before .before .before .b
 abbrev rec-at : tie.After-marked-session → ℕ
 rec-at c = c .before .before .before .before .before .before .before .before .before .before .before .args .rec
 
-coherent-requires : tie.Need-coherent-requires
-coherent-requires c κs = search needs
+census-requires : tie.Need-census-requires
+census-requires c κs = search needs
 
 record-fault-requires : tie.Need-record-fault-requires
 record-fault-requires c κs = search needs
@@ -41,7 +42,7 @@ gives-requires : tie.Need-gives-requires
 gives-requires c κs = search needs
 
 returns : tie.Need-returns
-returns c = read-tells _ _ _ _ (c .gives .ensures ∙ sym (read-refused _ _ _ _ ((c .before .before) .record-fault .result) (rw ((c .before .before .before) .coherent .ensures) at ((c .before .before) .record-fault .ensures)) ((c .before) .if1 .taken)))
+returns c = read-tells _ _ _ _ (c .gives .ensures ∙ sym (read-refused _ _ _ _ ((c .before .before) .record-fault .result) (rw ((c .before .before .before) .census .ensures, census-coherent _) at ((c .before .before) .record-fault .ensures)) ((c .before) .if1 .taken)))
 
 mul-e : tie.Need-mul-e
 mul-e c = omega (arith, facts c .session .small)
@@ -115,7 +116,7 @@ pub read-spec : {M : Type 1} → statement M
 read-spec =
     tie.close
     (tie.spec
-    coherent-requires
+    census-requires
     record-fault-requires
     gives-requires
     returns

@@ -1,5 +1,6 @@
 use Rattle.layout.proofs.ChecksLaws.{answered-refused, answered-next, answered-done}
-use Rattle.desk.proofs.DeskEntered.{DeskEntered, desk-entered, markable}
+use Rattle.desk.proofs.Facts.{census-coherent}
+use Rattle.desk.proofs.DeskEntered.{DeskEntered, desk-entered, markable, leavable}
 use Rattle.desk.specs.Entering.{deskFault}
 use native.Mathlib.Omega.{arith}
 use mathlib.Core.Path.{_≡_, refl, sym, _∙_}
@@ -13,7 +14,7 @@ use Rattle.desk.proofs.state.Desk.abandon.Statement.{statement}
 use Rattle.desk.proofs.state.Desk.abandon.Tie as tie
 
 fault-is : (c : tie.After-session-fault) → c .session-fault .result ≡ deskFault (c .before .before .args .t1) (c .before .before .args .session)
-fault-is c = rw (c .before .coherent .ensures) at (c .session-fault .ensures)
+fault-is c = rw (c .before .census .ensures, census-coherent (c .before .before .args .t1)) at (c .session-fault .ensures)
 
 -- past the common checks
 passed : (c : tie.Else1) → deskFault (c .before .before .before .args .t1) (c .before .before .before .args .session) ≡ 0
@@ -28,8 +29,8 @@ not-active c = sym (c .before .is-active .ensures) ∙ not-true _ (c .if2 .taken
 was-active : (c : tie.Else2) → isActive (sessionAt (c .before .before .before .before .before .before .args .t1) (c .before .before .before .before .before .before .args .session) .phase) ≡ true
 was-active c = sym (c .before .is-active .ensures) ∙ not-false _ (c .if2 .left)
 
-coherent-requires : tie.Need-coherent-requires
-coherent-requires c κs = search needs
+census-requires : tie.Need-census-requires
+census-requires c κs = search needs
 
 session-fault-requires : tie.Need-session-fault-requires
 session-fault-requires c κs = search needs
@@ -56,24 +57,30 @@ unmark-requires c κs =
     let h = inside (c .before .before .before .before .before) .coherent in
     markable (h .session _ (inside (c .before .before .before .before .before) .below-16)) (h .n-high) _ (omega arith)
 
+cast-leave : tie.Need-cast-leave
+cast-leave c = omega (arith, inside (c .before .before .before .before .before .before .before) .below-16)
+
+leave-requires : tie.Need-leave-requires
+leave-requires c κs = rw ((c .before .before .before .before .before .before .before .before .before) .census .ensures) (leavable _ (inside (c .before .before .before .before .before .before .before) .coherent) _ (inside (c .before .before .before .before .before .before .before) .below-16) (was-active (c .before .before .before .before)))
+
 idle-session-requires : tie.Need-idle-session-requires
 idle-session-requires c κs = search needs
 
 mul-idle : tie.Need-mul-idle
-mul-idle c = omega (arith, inside (c .before .before .before .before .before .before .before) .below-16)
+mul-idle c = omega (arith, inside (c .before .before .before .before .before .before .before .before .before) .below-16)
 
 element-set-from-idle : tie.Need-element-set-from-idle
-element-set-from-idle c = inside (c .before .before .before .before .before .before .before) .below-16
+element-set-from-idle c = inside (c .before .before .before .before .before .before .before .before .before) .below-16
 
 returns-3 : tie.Need-returns-3
 unfolding abandonReply abandonFault
-returns-3 c = abandon-tells _ _ (rw ((c .before) .unmark .ensures, c .idle-session .ensures, was-active (c .before .before .before .before)) (sym (answered-done _ _ (abandonRefused _) _ (passed (c .before .before .before .before .before .before .before)) refl)))
+returns-3 c = abandon-tells _ _ (rw ((c .before .before .before) .unmark .ensures, (c .before) .leave .ensures, c .idle-session .ensures, was-active (c .before .before .before .before .before .before)) (sym (answered-done _ _ (abandonRefused _) _ (passed (c .before .before .before .before .before .before .before .before .before)) refl)))
 
 pub abandon-spec : {M : Type 1} → statement M
 abandon-spec =
     tie.close
     (tie.spec
-    coherent-requires
+    census-requires
     session-fault-requires
     returns
     mul-e
@@ -81,6 +88,8 @@ abandon-spec =
     is-active-requires
     returns-2
     unmark-requires
+    cast-leave
+    leave-requires
     idle-session-requires
     mul-idle
     element-set-from-idle

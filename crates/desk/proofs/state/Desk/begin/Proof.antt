@@ -1,10 +1,12 @@
+use Prim.Native.Nat.{_<_}
 use native.Mathlib.Omega.{arith}
 use mathlib.Core.Path.{_≡_, refl, sym, _∙_}
 use mathlib.Core.Bool.{true, false}
-use Rattle.desk.specs.Desk.{sessionAt, isIdle}
+use Rattle.desk.specs.Desk.{sessionAt, isIdle, activeCount}
 use borrow.Author.Tests.{not-true, not-false}
 use Rattle.layout.proofs.ChecksLaws.{answered-refused, answered-next, answered-done}
-use Rattle.desk.proofs.DeskEntered.{DeskEntered, desk-entered}
+use Rattle.desk.proofs.Facts.{census-coherent}
+use Rattle.desk.proofs.DeskEntered.{DeskEntered, desk-entered, joinable}
 use Rattle.desk.specs.Entering.{deskFault}
 use Rattle.desk.specs.Begin.{beginReply, beginFault, beginRefused}
 use Rattle.desk.proofs.ToldLaws.{begin-tells}
@@ -13,7 +15,7 @@ use Rattle.desk.proofs.state.Desk.begin.Statement.{statement}
 use Rattle.desk.proofs.state.Desk.begin.Tie as tie
 
 fault-is : (c : tie.After-session-fault) → c .session-fault .result ≡ deskFault (c .before .before .args .t1) (c .before .before .args .session)
-fault-is c = rw (c .before .coherent .ensures) at (c .session-fault .ensures)
+fault-is c = rw (c .before .census .ensures, census-coherent (c .before .before .args .t1)) at (c .session-fault .ensures)
 
 -- past the common checks
 passed : (c : tie.Else1) → deskFault (c .before .before .before .args .t1) (c .before .before .before .args .session) ≡ 0
@@ -28,8 +30,14 @@ not-idle c = sym (c .before .is-idle .ensures) ∙ not-true _ (c .if2 .taken)
 was-idle : (c : tie.Else2) → isIdle (sessionAt (c .before .before .before .before .before .before .args .t1) (c .before .before .before .before .before .before .args .session) .phase) ≡ true
 was-idle c = sym (c .before .is-idle .ensures) ∙ not-false _ (c .if2 .left)
 
-coherent-requires : tie.Need-coherent-requires
-coherent-requires c κs = search needs
+-- the number of active sessions is known, and there is a place behind them
+counted : (c : tie.Else2) → (c .before .before .before .before .before .census .result ≡ activeCount (c .before .before .before .before .before .before .args .t1)) × (activeCount (c .before .before .before .before .before .before .args .t1) < 16)
+counted c =
+    let k = joinable _ _ (inside (c .before .before .before)) (was-idle c) in
+    (c .before .before .before .before .before .census .ensures ∙ k .0, k .1)
+
+census-requires : tie.Need-census-requires
+census-requires c κs = search needs
 
 session-fault-requires : tie.Need-session-fault-requires
 session-fault-requires c κs = search needs
@@ -51,6 +59,12 @@ returns-2 : tie.Need-returns-2
 unfolding beginReply beginFault
 returns-2 c = begin-tells _ _ (rw (not-idle c) (sym (answered-next _ _ (beginRefused _) _ (passed (c .before .before .before)) (λ z. omega arith))))
 
+cast-self : tie.Need-cast-self
+cast-self c = omega (arith, inside (c .before .before .before) .below-16)
+
+element-write-self : tie.Need-element-write-self
+element-write-self c = omega (arith, counted c .0, counted c .1)
+
 with-phase-requires : tie.Need-with-phase-requires
 with-phase-requires c κs = search needs
 
@@ -62,19 +76,21 @@ element-set-from-begun c = inside (c .before .before .before .before) .below-16
 
 returns-3 : tie.Need-returns-3
 unfolding beginReply beginFault
-returns-3 c = begin-tells _ _ (rw (c .with-phase .ensures, was-idle (c .before)) (sym (answered-done _ _ (beginRefused _) _ (passed (c .before .before .before .before)) refl)))
+returns-3 c = begin-tells _ _ (rw (c .with-phase .ensures, counted (c .before) .0, was-idle (c .before)) (sym (answered-done _ _ (beginRefused _) _ (passed (c .before .before .before .before)) refl)))
 
 pub begin-spec : {M : Type 1} → statement M
 begin-spec =
     tie.close
     (tie.spec
-    coherent-requires
+    census-requires
     session-fault-requires
     returns
     mul-e
     element-copy-out-e
     is-idle-requires
     returns-2
+    cast-self
+    element-write-self
     with-phase-requires
     mul-begun
     element-set-from-begun

@@ -6,6 +6,7 @@ use borrow.Author.Tests.{not-true, not-false, leb-true}
 use Rattle.layout.specs.Checks.{roomFor}
 use Rattle.layout.proofs.Stored.{stored-none}
 use Rattle.desk.specs.Entering.{imageFault}
+use Rattle.desk.proofs.Facts.{census-coherent}
 use Rattle.desk.proofs.DeskEntered.{clock-moves}
 use Rattle.desk.proofs.Entered.{Entered, entered}
 use Rattle.desk.proofs.PublishLaws.{publish-refused, publish-busy, publish-ends}
@@ -16,7 +17,7 @@ use Rattle.desk.proofs.state.Desk.publish.Tie as tie
 
 -- the common checks have passed
 passed : (c : tie.Else1) → let a = (c .before .before .before .before .before .before) .args in imageFault (a .image .now) (a .t1) (roomFor (length (a .trace .now))) (a .session) ≡ 0
-passed c = sym (rw ((c .before .before .before) .coherent .ensures) at ((c .before) .entry-fault .ensures)) ∙ c .if1 .left
+passed c = sym (rw ((c .before .before .before) .census .ensures, census-coherent _) at ((c .before) .entry-fault .ensures)) ∙ c .if1 .left
 
 facts : (c : tie.Else1) → let a = (c .before .before .before .before .before .before) .args in Entered (a .image .now) (a .t1) (roomFor (length (a .trace .now))) (a .session)
 facts c = entered _ _ _ _ (passed c)
@@ -24,8 +25,8 @@ facts c = entered _ _ _ _ (passed c)
 room : (c : tie.Else1) → 48 ≤ length ((c .before .before .before .before .before .before) .args .trace .now)
 room c = leb-true _ _ (facts c .room-enough)
 
-coherent-requires : tie.Need-coherent-requires
-coherent-requires c κs = search needs
+census-requires : tie.Need-census-requires
+census-requires c κs = search needs
 
 entry-fault-requires : tie.Need-entry-fault-requires
 entry-fault-requires c κs = search needs
@@ -38,7 +39,7 @@ same-length c = search needs
 
 returns : tie.Need-returns
 returns c =
-    let g = publish-refused _ _ _ _ ((c .before .before) .entry-fault .result) (rw ((c .before .before .before .before) .coherent .ensures) at ((c .before .before) .entry-fault .ensures)) ((c .before) .if1 .taken) in
+    let g = publish-refused _ _ _ _ ((c .before .before) .entry-fault .result) (rw ((c .before .before .before .before) .census .ensures, census-coherent _) at ((c .before .before) .entry-fault .ensures)) ((c .before) .if1 .taken) in
     publish-tells _ _ _ _ (c .gives .ensures ∙ sym (g .replies), stored-none _ _ _ (g .lists))
 
 mul-e : tie.Need-mul-e
@@ -97,7 +98,7 @@ pub publish-spec : {M : Type 1} → statement M
 publish-spec =
     tie.close
     (tie.spec
-    coherent-requires
+    census-requires
     entry-fault-requires
     gives-requires
     same-length

@@ -11,6 +11,7 @@ use Rattle.layout.proofs.Says.{by-case}
 use Rattle.layout.proofs.Stored.{stored-none}
 use Rattle.desk.specs.Entering.{imageFault}
 use Rattle.desk.specs.Group.{publishedBelow}
+use Rattle.desk.proofs.Facts.{census-coherent}
 use Rattle.desk.proofs.DeskEntered.{clock-moves}
 use Rattle.desk.proofs.Entered.{Entered, entered}
 use Rattle.desk.proofs.GroupLaws.{seenBelow, set-seen, withSessions, published-member, published-other, group-refused, group-turned, group-ends, group-tells}
@@ -31,7 +32,7 @@ abbrev μ-loop2 : tie.MeasureT-loop2
 
 -- 1, 2 and 3 have passed
 passed : (c : tie.Else1 Inv-loop μ-loop Inv-loop2 μ-loop2) → let a = (c .before .before .before .before .before .before) .args in imageFault (a .image .now) (a .t1) (roomFor (length (a .trace .now))) 0 ≡ 0
-passed c = sym (rw ((c .before .before .before) .coherent .ensures) at ((c .before) .entry-fault .ensures)) ∙ c .if1 .left
+passed c = sym (rw ((c .before .before .before) .census .ensures, census-coherent _) at ((c .before) .entry-fault .ensures)) ∙ c .if1 .left
 
 facts : (c : tie.Else1 Inv-loop μ-loop Inv-loop2 μ-loop2) → let a = (c .before .before .before .before .before .before) .args in Entered (a .image .now) (a .t1) (roomFor (length (a .trace .now))) 0
 facts c = entered _ _ _ _ (passed c)
@@ -39,8 +40,8 @@ facts c = entered _ _ _ _ (passed c)
 room : (c : tie.Else1 Inv-loop μ-loop Inv-loop2 μ-loop2) → 48 ≤ length ((c .before .before .before .before .before .before) .args .trace .now)
 room c = leb-true _ _ (facts c .room-enough)
 
-coherent-requires : tie.Need-coherent-requires Inv-loop μ-loop Inv-loop2 μ-loop2
-coherent-requires c κs = search needs
+census-requires : tie.Need-census-requires Inv-loop μ-loop Inv-loop2 μ-loop2
+census-requires c κs = search needs
 
 entry-fault-requires : tie.Need-entry-fault-requires Inv-loop μ-loop Inv-loop2 μ-loop2
 entry-fault-requires c κs = search needs
@@ -53,7 +54,7 @@ same-length c = search needs
 
 returns : tie.Need-returns Inv-loop μ-loop Inv-loop2 μ-loop2
 returns c =
-    let g = group-refused _ _ _ _ ((c .before .before) .entry-fault .result) (rw ((c .before .before .before .before) .coherent .ensures) at ((c .before .before) .entry-fault .ensures)) ((c .before) .if1 .taken) in
+    let g = group-refused _ _ _ _ ((c .before .before) .entry-fault .result) (rw ((c .before .before .before .before) .census .ensures, census-coherent _) at ((c .before .before) .entry-fault .ensures)) ((c .before) .if1 .taken) in
     group-tells _ _ _ _ (c .gives .ensures ∙ sym (g .replies), stored-none _ _ _ (g .lists))
 
 loop-holds : tie.Need-loop-holds Inv-loop μ-loop Inv-loop2 μ-loop2
@@ -161,7 +162,7 @@ publish-group-spec =
     μ-loop
     Inv-loop2
     μ-loop2
-    coherent-requires
+    census-requires
     entry-fault-requires
     gives-requires
     same-length
