@@ -98,6 +98,6 @@ pub names-front : SettleByFront namesFront → ⊥
 unfolding allBelow anyBelow countBelow first answered shapedB freshB placesOk sessionOk copiesB coherentB entryFault settleFault oldestReader oldestOf settleReply holds firstRefusal
 names-front h =
     let w = h .waits (1 ∷ 8 ∷ 3 ∷ 9 ∷ replicate 164 0) published 48 2 2 refl refl (omega arith) (omega arith) in
-    let e : _≡_ {A = ℕ} 1 (w .0) = ap valueOf (w .1) in
-    let l = w .2 .lowest 1 (omega arith) refl in
+    let e : _≡_ {A = ℕ} 1 (w .session) = ap valueOf (w .told) in
+    let l = w .oldest .lowest 1 (omega arith) refl in
     omega arith

@@ -10,7 +10,7 @@ use lib.ListN.{getD, length, List·getD-eq-default}
 use lib.Seq.{getD-set-same, getD-set-other}
 use borrow.Author.Tests.{eq-eqb, ne-eqb, ltb-true, ltb-false}
 use Rattle.layout.specs.Checks.{unless, first, roomFor}
-use Rattle.layout.specs.Told.{ok, wait}
+use Rattle.layout.specs.Told.{ok}
 use Rattle.layout.specs.declared.oldest.Oldest.{Oldest}
 use Rattle.layout.proofs.BelowLaws.{count-most}
 use Rattle.layout.proofs.ChecksLaws.{answered-zero, first-both, unless-zero}
@@ -25,12 +25,12 @@ use Rattle.desk.specs.Publish.{publishFault, publishReply}
 use Rattle.desk.specs.declared.publish.PublishReply.{PublishReply}
 use Rattle.desk.specs.declared.state.Desk.{Desk}
 use Rattle.desk.specs.declared.state.Phase.the-variants.{Published}
-use Rattle.desk.proofs.Counts.{by-same}
+use Rattle.layout.proofs.Counts.{by-same}
 use Rattle.desk.proofs.DeskEntered.{desk-entered, joinable}
 use Rattle.desk.proofs.Entered.{Entered, entered}
 use Rattle.desk.specs.Coherent.{coherentB}
 use Rattle.desk.proofs.Facts.{Coherent, says-order, says-coherent}
-use Rattle.desk.proofs.Order.{InOrder, places-apart, all-listed, skip, skip-is}
+use Rattle.layout.proofs.Order.{InOrder, places-apart, all-listed, skip, skip-is}
 use Rattle.desk.proofs.Without.{without-at}
 use Rattle.snapshot.specs.Own.{ownPlace}
 use Rattle.snapshot.specs.Read.{readFault, readDone, readReply}
@@ -39,7 +39,7 @@ use Rattle.snapshot.specs.declared.reading.ReadReply.{ReadReply}
 use Rattle.snapshot.specs.declared.writing.WriteReply.{WriteReply}
 use Rattle.commit.specs.Finish.{finishFault, finishDone, finishReply}
 use Rattle.commit.specs.Reclaim.{noneLeft, heldB, reclaimFault, reclaimDone, reclaimReply}
-use Rattle.commit.specs.Settle.{endOf, startsFor, oldestReader, waitsB, settleFault, settleReply}
+use Rattle.commit.specs.Settle.{endOf, startsFor, oldestReader, waitsB, settleFault, settleEntries, settleRefused, settleDone, settleReply}
 use Rattle.commit.specs.Told.{settleTold}
 use Rattle.commit.specs.declared.finishing.FinishReply.{FinishReply}
 use Rattle.commit.specs.declared.reclaiming.ReclaimReply.{ReclaimReply}
@@ -51,7 +51,8 @@ use Rattle.listening.specs.Listener.{listenerFault}
 use Rattle.listening.specs.Read.{listenReadFault, listenReadReply}
 use Rattle.listening.specs.declared.finding.FindReply.{FindReply}
 use Rattle.history.specs.Call.{begin, abandon, settle}
-use Rattle.claims.specs.Listing.{Listed, ListRule, CoherenceKept, Joins, Leaves, firstCause, ListDue, LowestInFront, SettleByFront}
+use Rattle.claims.specs.Listing.{Listed, ListRule, CoherenceKept, Joins, Leaves, ListDue, LowestInFront, WaitsFor, SettleByFront}
+use Rattle.claims.specs.Refusals.{firstCause}
 use Rattle.claims.specs.Rules.{storeRules}
 use Rattle.claims.proofs.Rows.{desk-row, finish-row, settle-row, write-row, listen-finish-row}
 use Rattle.claims.proofs.ReadyKept.{call-kept}
@@ -239,9 +240,17 @@ module _ (img : List ℕ) (d : Desk) (len s end : ℕ) (z : settleFault img d le
       (λ q. q)
       (λ n. by-case w (λ c. absurd (omega (arith, seat n .1))) (λ c. absurd (omega (arith, ahead n, way n .1 .1))))
 
-  waits-told : (reader .number ≡ 0 → ⊥) → storeRules .call img d (settle len s) .told ≡ wait (reader .place)
-  unfolding settleReply
-  waits-told n = ap (λ (r : SettleReply). settleTold (r .answer)) (answered-zero (settleFault img d len s) _ _ z) ∙ rw (ne-eqb (reader .number) 0 n)
+  waiting : (reader .number ≡ 0 → ⊥) → LowestInFront d (reader .place) → WaitsFor d (storeRules .call img d (settle len s))
+  unfolding settleReply settleEntries
+  waiting n oldest =
+      let e = answered-zero (settleFault img d len s) (settleRefused d) (settleDone d s) z in
+      record {
+        session = reader .place;
+        told = ap (λ (r : SettleReply). settleTold (r .answer)) e ∙ rw (ne-eqb (reader .number) 0 n);
+        oldest = oldest;
+        entries = answered-zero (settleFault img d len s) _ _ z ∙ rw (ne-eqb (reader .number) 0 n);
+        desk = ap (λ (r : SettleReply). r .desk) e ∙ rw (ne-eqb (reader .number) 0 n);
+      }
 
   goes-told : reader .number ≡ 0 → storeRules .call img d (settle len s) .told ≡ ok
   unfolding settleReply
@@ -252,8 +261,7 @@ settle-by-front =
     record {
       waits = λ img d len s end z p l b.
           let y = settle-row img d len s ∙ z in
-          let w = front-waits img d len s end y p l b in
-          (oldestReader d s .place, waits-told img d len s end y p (w .0), w .1);
+          let w = front-waits img d len s end y p l b in waiting img d len s end y p (w .0) (w .1);
       goes = λ img d len s end z p c. let y = settle-row img d len s ∙ z in goes-told img d len s end y p (front-goes img d len s end y p c);
     }
 

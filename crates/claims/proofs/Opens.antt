@@ -1,6 +1,6 @@
 -- Every image of the right shape with empty slots opens, and every size can be laid.
 use Prim.Native.Nat.{ℕ, zero, suc, _+_, _*_, _≤_, _<_}
-use mathlib.Core.Bool.{true, false}
+use mathlib.Core.Bool.{true, false, false≢true}
 use mathlib.Core.Path.{_≡_, refl, ap, _∙_}
 use mathlib.Core.List.{List}
 use native.Mathlib.Omega.{arith}
@@ -10,12 +10,12 @@ use borrow.Author.Tests.{eq-eqb, le-leb, lt-ltb}
 use Rattle.layout.specs.Checks.{first}
 use Rattle.layout.specs.Image.{recordsOf, sessionsOf, ceilingOf, inRange, shapedB, occupiedB, persistAt}
 use Rattle.layout.specs.Lay.{layFault, layAnswer, laidImage, emptyImage}
-use Rattle.layout.specs.Told.{ok, layTold}
+use Rattle.layout.specs.Told.{ok, isRefusal, layTold}
 use Rattle.layout.proofs.ChecksLaws.{answered-zero}
 use Rattle.layout.proofs.Says.{says-ne, says-any, says-not}
 use Rattle.layout.proofs.Shape.{says-range, says-shaped}
 use Rattle.desk.specs.Coherent.{limit}
-use Rattle.desk.specs.Desk.{idleSession, noSession, orderAt}
+use Rattle.desk.specs.Desk.{idleSession, noSession}
 use Rattle.desk.specs.declared.state.Session.{Session}
 use Rattle.recovery.specs.Open.{openFault, opened, openReply}
 use Rattle.recovery.specs.Told.{openTold}
@@ -24,7 +24,7 @@ use Rattle.claims.specs.Rules.{storeRules}
 use Rattle.claims.specs.Recovering.{AllEmpty}
 use Rattle.claims.proofs.Opening.{facts, opens-clean}
 use Rattle.claims.proofs.SteadyCalls.{by-answer}
-use Rattle.claims.specs.Opens.{Fits, Opened, blank, Opens}
+use Rattle.claims.specs.Opens.{Fits, Opened, Unopened, blank, Opens}
 
 module _ (img : List ℕ) (len : ℕ) (f : Fits img) (none : AllEmpty img) (low : ceilingOf img < limit) (room : 48 ≤ len) where
   passes : openFault img len ≡ 0
@@ -64,11 +64,21 @@ only img len o =
       f .room,
     )
 
--- nobody is listed, refused or not
-list-empty : (img : List ℕ) (len j : ℕ) → j < 16 → orderAt (storeRules .opens img len .desk) j ≡ 0
+-- refused
+unopened : (img : List ℕ) (len : ℕ) → isRefusal (storeRules .opens img len .told) ≡ true → Unopened (storeRules .opens img len .desk)
 unfolding openReply
-list-empty img len j l =
-    let z = getD-replicate {A = ℕ} 16 j 0 0 l in by-answer (λ (r : OpenReply). orderAt (r .desk) j ≡ 0) (openFault img len) _ _ z (λ y. z)
+unopened img len =
+    by-answer (λ (r : OpenReply). isRefusal (openTold (r .answer)) ≡ true → Unopened (r .desk)) (openFault img len) _ _
+    (λ e.
+    record {
+      clock = refl;
+      n = refl;
+      m = refl;
+      idle = λ s l. let z = getD-replicate {A = Session} 16 s idleSession noSession l in rw z (refl, refl);
+      unmarked = λ r l. getD-replicate {A = ℕ} 256 r 0 0 l;
+      unlisted = λ j l. getD-replicate {A = ℕ} 16 j 0 0 l;
+    })
+    (λ y e. absurd (false≢true e))
 
 -- zeros behind a header
 zeros : (k j : ℕ) → _≡_ {A = ℕ} (getD (replicate k 0) j 0) 0
@@ -116,7 +126,7 @@ opens-all =
     record {
       opens = opens;
       only = only;
-      refused-list = λ img len e. list-empty img len;
+      refused = unopened;
       lays = λ n m img a b c d size. lays n m a b c d img size;
       laid-opens = λ n m len a b c d room. laid-opens n m a b c d len room;
     }

@@ -38,7 +38,7 @@ use Rattle.claims.specs.Rules.{storeRules}
 use Rattle.claims.specs.Recovery.{replays, afterCalls, afterStop, Attempt, afterAttempt, afterAttempts, afterWhole, Ends}
 use Rattle.claims.proofs.Lists.{lists}
 use Rattle.claims.proofs.SameLog.{same-log, same-sound, sound-passes, Tied, says-tied}
-use Rattle.desk.proofs.Counts.{count-changed}
+use Rattle.layout.proofs.Counts.{count-changed}
 
 -- header and length are right, for N records and M sessions
 pub record Whole (N M : ℕ) (img : List ℕ) : Type 0 where

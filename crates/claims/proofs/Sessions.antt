@@ -19,7 +19,7 @@ use Rattle.desk.specs.declared.state.Phase.{Phase}
 use Rattle.desk.specs.declared.state.Phase.the-variants.{Idle, Active, Sealed, Published}
 use Rattle.desk.specs.declared.state.RecordCopy.{RecordCopy}
 use Rattle.desk.specs.declared.state.Session.{Session}
-use Rattle.desk.proofs.Counts.{by-same}
+use Rattle.layout.proofs.Counts.{by-same}
 use Rattle.desk.proofs.Facts.{CountIn, NumberIn, PlaceIn, SessionIn, Copies}
 use Rattle.snapshot.specs.Own.{ownPlace}
 

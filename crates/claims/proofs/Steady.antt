@@ -23,9 +23,9 @@ use Rattle.desk.specs.declared.state.Phase.the-variants.{Idle, Active, Sealed, 
 use Rattle.desk.specs.declared.state.RecordCopy.{RecordCopy}
 use Rattle.desk.specs.declared.state.Session.{Session}
 use Rattle.desk.specs.declared.state.Desk.{Desk}
-use Rattle.desk.proofs.Counts.{by-same, adds, count-changed, count-less}
+use Rattle.layout.proofs.Counts.{by-same, adds, count-changed, count-less}
 use Rattle.desk.proofs.Facts.{CountIn, NumberIn, SessionIn, Copies, MarkIs, Coherent}
-use Rattle.desk.proofs.Order.{InOrder, all-listed, joins, leaves}
+use Rattle.layout.proofs.Order.{InOrder, all-listed, joins, leaves}
 use Rattle.desk.proofs.Without.{length-without, without-at}
 use Rattle.desk.proofs.Copied.{copies-four, copies-differ}
 use Rattle.snapshot.specs.Own.{ownPlace}

@@ -40,7 +40,7 @@ use Rattle.listening.specs.Find.{findFault, findRefused, findDone, findReply}
 use Rattle.listening.proofs.FinishLaws.{finish-done}
 use Rattle.claims.proofs.Sessions.{idle-in, idle-none}
 use Rattle.claims.proofs.Steady.{Steady, Kept, same-order, begin-order, end-order, phase-kept, drop-kept, overwrite-kept, copy-kept}
-use Rattle.desk.proofs.Counts.{adds}
+use Rattle.layout.proofs.Counts.{adds}
 
 -- no session of a fresh desk is active
 none-active : (n m : ℕ) → activeCount (freshDesk 1 n m) ≡ 0

@@ -17,7 +17,7 @@ use Rattle.desk.specs.Publish.{publishRefused}
 use Rattle.desk.specs.declared.state.Phase.the-variants.{Published}
 use Rattle.desk.specs.declared.state.Session.{Session}
 use Rattle.desk.specs.declared.state.Desk.{Desk}
-use Rattle.desk.proofs.Counts.{by-same}
+use Rattle.layout.proofs.Counts.{by-same}
 use Rattle.desk.proofs.Copied.{copies-four, copies-some}
 use Rattle.desk.proofs.Facts.{Coherent, SessionIn, Copies, MarkIs}
 use Rattle.desk.proofs.GroupDesk.{Loaded, loaded, published-long, grouped-at}

@@ -14,7 +14,7 @@ use Rattle.desk.specs.declared.state.Session.{Session}
 use Rattle.desk.specs.declared.state.Desk.{Desk}
 use Rattle.history.specs.Call.{finish}
 use Rattle.claims.specs.ByEntry.{entry, slotIndex, Closes}
-use Rattle.claims.specs.Refusals.{firstRefusal, row, given}
+use Rattle.claims.specs.Refusals.{firstCause}
 use Rattle.claims.specs.Rules.{Reply, Rules}
 
 -- word m of copy j of session s
@@ -97,7 +97,7 @@ pub record Empties (d : Desk) (s : ℕ) (y : Reply) : Type 0 where
 
 -- no cause of its row holds
 abbrev pub Accepted : List ℕ → Desk → ℕ → ℕ → Type 0
-Accepted img d len s = firstRefusal (row (finish len s)) (given img d (finish len s)) ≡ 0
+Accepted img d len s = firstCause img d (finish len s) ≡ 0
 
 pub record FinishDue (R : Rules) : Type 0 where
   pub seals : (img : List ℕ) (d : Desk) (len s : ℕ) → Accepted img d len s → (sessionAt d s .count ≡ 0 → ⊥) → Seals img d s (R .call img d (finish len s))

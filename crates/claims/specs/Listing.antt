@@ -3,7 +3,7 @@
 use Prim.Native.Nat.{ℕ, _+_, _≤_, _<_}
 use mathlib.Core.Bool.{true}
 use mathlib.Core.Path.{_≡_}
-use mathlib.Core.List.{List}
+use mathlib.Core.List.{List, []}
 use mathlib.Core.Logic.{_⊎_}
 use lib.ListN.{length}
 use Rattle.layout.specs.Told.{ok, wait}
@@ -13,8 +13,8 @@ use Rattle.desk.specs.Desk.{sessionAt, orderAt, startAt, activeAt, activeCount}
 use Rattle.desk.specs.declared.state.Phase.the-variants.{Published}
 use Rattle.desk.specs.declared.state.Desk.{Desk}
 use Rattle.history.specs.Call.{Begin, Read, Finish, Find, Call, begin, read, write, abandon, finish, publish, group, settle, reclaim, listen}
-use Rattle.claims.specs.Refusals.{firstRefusal, row, given}
-use Rattle.claims.specs.Rules.{Rules}
+use Rattle.claims.specs.Refusals.{firstCause}
+use Rattle.claims.specs.Rules.{Reply, Rules}
 
 -- ---- the rule
 
@@ -63,10 +63,6 @@ pub record Leaves (d : Desk) (s : ℕ) (e : Desk) : Type 0 where
 abbrev pub Stays : Desk → Desk → Type 0
 Stays d e = e .order ≡ d .order
 
--- the number of the first cause that holds, 0 where none does
-abbrev pub firstCause : List ℕ → Desk → Call → ℕ
-firstCause img d c = firstRefusal (row c) (given img d c)
-
 -- a session joins the list where it becomes active and leaves it where it stops being active; nothing else changes the list
 pub record ListDue (R : Rules) : Type 0 where
   pub begins : (img : List ℕ) (d : Desk) (s : ℕ) → length (d .order) ≡ 16 → firstCause img d (begin s) ≡ 0 → Joins d s (R .call img d (begin s) .desk)
@@ -102,10 +98,18 @@ pub record LowestInFront (d : Desk) (t : ℕ) : Type 0 where
   pub run : (j : ℕ) → j ≤ place → startAt d (orderAt d j) ≡ startAt d (orderAt d 0)
   pub lowest : (j : ℕ) → j < activeCount d → startAt d (orderAt d j) ≡ startAt d (orderAt d 0) → t ≤ orderAt d j
 
--- a settle of a session with this end that is not refused: where the start of the front is below the end it waits for the lowest session
--- with that start; with nobody in front, or a start that is not below the end, it does not wait
+-- it waits for such a session, stores nothing and leaves the desk
+pub record WaitsFor (d : Desk) (y : Reply) : Type 0 where
+  pub session : ℕ
+  pub told : y .told ≡ wait session
+  pub oldest : LowestInFront d session
+  pub entries : y .entries ≡ []
+  pub desk : y .desk ≡ d
+
+-- a settle of a session with this end that is not refused: where the start of the front is below the end it waits; with nobody in front, or
+-- a start that is not below the end, it does not
 pub record SettleByFront (R : Rules) : Type 0 where
   pub waits : (img : List ℕ) (d : Desk) (len s end : ℕ) → firstCause img d (settle len s) ≡ 0 → sessionAt d s .phase ≡ Published end
-      → 0 < activeCount d → startAt d (orderAt d 0) < end → (t : ℕ) × (R .call img d (settle len s) .told ≡ wait t) × LowestInFront d t
+      → 0 < activeCount d → startAt d (orderAt d 0) < end → WaitsFor d (R .call img d (settle len s))
   pub goes : (img : List ℕ) (d : Desk) (len s end : ℕ) → firstCause img d (settle len s) ≡ 0 → sessionAt d s .phase ≡ Published end
       → (activeCount d ≡ 0) ⊎ (end ≤ startAt d (orderAt d 0)) → R .call img d (settle len s) .told ≡ ok

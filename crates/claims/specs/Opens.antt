@@ -8,6 +8,7 @@ use Rattle.layout.specs.Image.{word}
 use Rattle.layout.specs.Lay.{layAnswer, laidImage}
 use Rattle.layout.specs.Told.{ok, isRefusal, layTold}
 use Rattle.desk.specs.Desk.{sessionAt, markAt, orderAt}
+use Rattle.desk.specs.declared.state.Desk.{Desk}
 use Rattle.desk.specs.declared.state.Phase.the-variants.{Idle}
 use Rattle.claims.specs.Rules.{Opening, storeRules}
 use Rattle.claims.specs.Recovering.{AllEmpty}
@@ -31,6 +32,15 @@ pub record Opened (img : List ℕ) (o : Opening) : Type 0 where
   pub unmarked : (r : ℕ) → r < 256 → markAt (o .desk) r ≡ 0
   pub unlisted : (j : ℕ) → j < 16 → orderAt (o .desk) j ≡ 0
 
+-- the desk of a refused opening: clock, N and M are 0
+pub record Unopened (d : Desk) : Type 0 where
+  pub clock : d .clock ≡ 0
+  pub n : d .n ≡ 0
+  pub m : d .m ≡ 0
+  pub idle : (s : ℕ) → s < 16 → (sessionAt d s .phase ≡ Idle) × (sessionAt d s .count ≡ 0)
+  pub unmarked : (r : ℕ) → r < 256 → markAt d r ≡ 0
+  pub unlisted : (j : ℕ) → j < 16 → orderAt d j ≡ 0
+
 -- the header, 0 in word 3, zero records and zero slots
 abbrev pub blank : ℕ → ℕ → List ℕ
 blank n m = 1 ∷ n ∷ m ∷ 0 ∷ replicate (4 * n + 44 * m) 0
@@ -42,9 +52,7 @@ pub record Opens : Type 0 where
   -- and nothing else opens
   pub only : (img : List ℕ) (len : ℕ) → storeRules .opens img len .told ≡ ok
       → Fits img × AllEmpty img × (word img 3 < 4611686018427387904) × (48 ≤ len)
-  -- refused, the desk lists nobody
-  pub refused-list : (img : List ℕ) (len : ℕ) → isRefusal (storeRules .opens img len .told) ≡ true → (j : ℕ) → j < 16
-      → orderAt (storeRules .opens img len .desk) j ≡ 0
+  pub refused : (img : List ℕ) (len : ℕ) → isRefusal (storeRules .opens img len .told) ≡ true → Unopened (storeRules .opens img len .desk)
   -- every size can be laid, and what was laid opens
   pub lays : (n m : ℕ) (img : List ℕ) → 1 ≤ n → n ≤ 256 → 1 ≤ m → m ≤ 16 → length img ≡ 4 + 4 * n + 44 * m
       → (layTold (layAnswer n m img) ≡ ok) × (laidImage n m img ≡ blank n m)

@@ -212,6 +212,10 @@ given img d (settle len s) = ofCall img d len s 0 0 isPublished
 given img d (reclaim len s) = ofCall img d len s 0 0 (λ p. true)
 given img d (listen c) = givenListening img d c
 
+-- the number of the first cause that holds in the row of a call, 0 where none does
+abbrev pub firstCause : List ℕ → Desk → Call → ℕ
+firstCause img d c = firstRefusal (row c) (given img d c)
+
 -- ---- the table's last two columns
 
 -- one thing at this number, and another at all others

@@ -14,9 +14,9 @@ use Rattle.desk.specs.Desk.{sessionAt, orderAt, isActive, startOf, activeCount}
 use Rattle.desk.specs.declared.state.Phase.{Phase}
 use Rattle.desk.specs.declared.state.Phase.the-variants.{Idle, Active, Sealed, Published}
 use Rattle.desk.specs.declared.state.Desk.{Desk}
-use Rattle.desk.proofs.Counts.{by-same}
+use Rattle.layout.proofs.Counts.{by-same}
 use Rattle.desk.proofs.Facts.{NumberIn, Coherent}
-use Rattle.desk.proofs.Order.{all-listed}
+use Rattle.layout.proofs.Order.{all-listed}
 use Rattle.commit.specs.Settle.{endOf, startBelow, oldestReader}
 
 -- two that are oldest of the same numbers are one

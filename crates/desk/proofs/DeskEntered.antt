@@ -15,8 +15,8 @@ use Rattle.desk.specs.declared.state.Phase.the-variants.{Idle, Active, S
 use Rattle.desk.specs.Desk.{copyAt, sessionAt, isIdle, isActive, activeAt, activeCount, ListedAt}
 use Rattle.desk.specs.Coherent.{coherentB, censusOf}
 use Rattle.desk.specs.Entering.{sessionFault, deskFault}
-use Rattle.desk.proofs.Counts.{by-same, count-less}
-use Rattle.desk.proofs.Order.{places-apart, all-listed}
+use Rattle.layout.proofs.Counts.{by-same, count-less}
+use Rattle.layout.proofs.Order.{places-apart, all-listed}
 use Rattle.desk.proofs.Facts.{count-four, SessionIn, Coherent, says-coherent, census-counts}
 
 pub record DeskEntered (d : Desk) (s : ℕ) : Type 0 where

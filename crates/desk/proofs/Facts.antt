@@ -15,7 +15,7 @@ use Rattle.desk.specs.declared.state.Phase.{Phase}
 use Rattle.desk.specs.declared.state.Phase.the-variants.{Idle, Active, Sealed, Published}
 use Rattle.desk.specs.Desk.{copyAt, sessionAt, markAt, orderAt, isIdle, isSealed, isPublished, startAt, activeAt, activeCount}
 use Rattle.desk.specs.Coherent.{limit, copiesB, markOk, entryOk, sessionOk, placesOk, placeOk, freshB, countOk, numberOk, zeroCopyB, sealedAt, sizesOk, listOk, coherentB, censusOf}
-use Rattle.desk.proofs.Order.{InOrder}
+use Rattle.layout.proofs.Order.{InOrder}
 
 abbrev pub CountIn : Phase → ℕ → Type 0
 CountIn Idle k = k ≡ 0

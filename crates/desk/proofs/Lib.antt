@@ -1,11 +1,9 @@
 pub mod Copied
-pub mod Counts
 pub mod DeskEntered
 pub mod Entered
 pub mod RecordEntered
 pub mod Facts
 pub mod Listed
-pub mod Order
 pub mod Sizes
 pub mod Struck
 pub mod Walk

@@ -14,8 +14,8 @@ use Rattle.layout.proofs.Says.{Says, says-le, says-lt, says-eq, says-and, says-
 use Rattle.desk.specs.declared.state.Desk.{Desk}
 use Rattle.desk.specs.Desk.{orderAt, startAt, activeAt, activeCount}
 use Rattle.desk.specs.Strike.{notedBelow, blankBelow, startBefore, listPasses}
-use Rattle.desk.proofs.Counts.{by-same}
-use Rattle.desk.proofs.Order.{InOrder, or-false}
+use Rattle.layout.proofs.Counts.{by-same}
+use Rattle.layout.proofs.Order.{InOrder, or-false}
 
 -- a place that is struck is 0, also past the end
 pub set-zero : (h : List ℕ) (i : ℕ) → getD (set h i 0) i 0 ≡ 0

@@ -9,8 +9,8 @@ use lib.Dec.{ltb}
 use borrow.Author.Tests.{ltb-true, ltb-false}
 use Rattle.layout.proofs.Says.{by-test, by-case}
 use Rattle.desk.specs.Desk.{without, ListedAt}
-use Rattle.desk.proofs.Counts.{by-same}
-use Rattle.desk.proofs.Order.{skip, skip-is}
+use Rattle.layout.proofs.Counts.{by-same}
+use Rattle.layout.proofs.Order.{skip, skip-is}
 use Rattle.desk.proofs.Without.{length-without, without-at}
 
 -- of the list l with k places in use, those from j on have what stood behind them, but for the last; `last`, which stood at j, is in hand

@@ -47,6 +47,10 @@ pub record Lists (es : List Session) (o order noted : List ℕ) (last j : ℕ) :
   pub start : last ≡ startBefore es o j
   pub passed : allBelow j (listPasses es o) ≡ true
 
+and-false : (a : Bool) → (a && false) ≡ false
+and-false true = refl
+and-false false = refl
+
 -- a desk that is not coherent
 refused : (d : Desk) → coherentByStriking d ≡ false → 17 ≡ censusOf d
 unfolding censusOf
@@ -159,9 +163,6 @@ module _ {d : Desk} {h : List ℕ} {active : ℕ} (z : Ended d h active) {order 
   abbrev named : ℕ
   named = getD noted (orderAt d j) 0
 
-  abbrev follower : Bool
-  follower = activeAt d (orderAt d j) && leb last (startAt d (orderAt d j))
-
   module _ (l : j < active) where
     -- place j has not passed
     not-passed : listPasses (d .sessions) (d .order) j ≡ false → 17 ≡ censusOf d
@@ -179,19 +180,26 @@ module _ {d : Desk} {h : List ℕ} {active : ℕ} (z : Ended d h active) {order 
       lists-twice n = not-passed (rw (lt-ltb (orderAt d j) 16 low, ne-eqb _ 0 (rw (w .names) at n)))
 
       module _ (new : named ≡ 0) where
-        -- its session does not follow
-        pub lists-fail : follower ≡ false → 17 ≡ censusOf d
-        lists-fail e = not-passed (rw (lt-ltb (orderAt d j) 16 low, eq-eqb _ 0 (rw (w .names) at new)) (rw (w .start) at e))
+        -- its session is not active
+        pub lists-idle : activeAt d (orderAt d j) ≡ false → 17 ≡ censusOf d
+        lists-idle e = not-passed (rw (lt-ltb (orderAt d j) 16 low, eq-eqb _ 0 (rw (w .names) at new), e))
+
+        -- its start falls
+        pub lists-falls : startAt d (orderAt d j) < last → 17 ≡ censusOf d
+        lists-falls l =
+            not-passed (rw (lt-ltb (orderAt d j) 16 low, eq-eqb _ 0 (rw (w .names) at new), lt-leb _ _ (rw (w .start) at l)) (and-false (activeAt d (orderAt d j))))
 
         -- place j has passed
-        pub lists-turns : follower ≡ true → Lists (d .sessions) (d .order) (set order j 0) (set noted (orderAt d j) 1) (startAt d (orderAt d j)) (j + 1)
+        pub lists-turns : activeAt d (orderAt d j) ≡ true → last ≤ startAt d (orderAt d j) → Lists (d .sessions) (d .order) (set order j 0) (set noted (orderAt d j) 1) (startAt d (orderAt d j)) (j + 1)
         unfolding blankBelow notedBelow startBefore
-        lists-turns e =
+        lists-turns e l =
             record {
               blank = rw (add-one, w .blank);
               names = rw (add-one, w .names);
               start = rw add-one;
-              passed = all-more (listPasses (d .sessions) (d .order)) j (w .passed) (rw (lt-ltb (orderAt d j) 16 low, eq-eqb _ 0 (rw (w .names) at new)) (rw (w .start) at e));
+              passed =
+                  all-more (listPasses (d .sessions) (d .order)) j (w .passed)
+                  (rw (lt-ltb (orderAt d j) 16 low, eq-eqb _ 0 (rw (w .names) at new), e, le-leb _ _ (rw (w .start) at l)));
             }
 
   -- what is left decides

@@ -10,7 +10,7 @@ use lib.ListN.{getD, length, length-append}
 use borrow.Author.Tests.{eq-eqb, ne-eqb, lt-ltb, le-ltb}
 use Rattle.layout.proofs.Says.{by-test, by-case}
 use Rattle.desk.specs.Desk.{without}
-use Rattle.desk.proofs.Order.{skip, skip-is}
+use Rattle.layout.proofs.Order.{skip, skip-is}
 
 -- it is as long as before
 pub length-without : (s : ℕ) (l : List ℕ) → length (without s l) ≡ length l

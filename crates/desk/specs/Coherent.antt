@@ -98,7 +98,7 @@ holdsB d j = not (usedB d j) || (ltb (orderAt d j) 16 && activeAt d (orderAt d j
 abbrev pub onceB : Desk → ℕ → Bool
 onceB d j = not (usedB d j) || allBelow j (λ i. not (eqb (orderAt d i) (orderAt d j)))
 
--- and has no session before it that began later
+-- and has no session before it with a larger start
 abbrev pub risesB : Desk → ℕ → Bool
 risesB d j = not (usedB d j) || allBelow j (λ i. leb (startAt d (orderAt d i)) (startAt d (orderAt d j)))
 

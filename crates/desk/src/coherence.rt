@@ -2,12 +2,12 @@
 // use out of a copy of the list, and nothing may be left.
 ghost use mathlib.Core.Path.{_≡_};
 ghost use Prim.Native.Nat.{_+_, _*_, _<_};
-ghost use mathlib.Core.Bool.{true, not, _&&_, cond};
-ghost use lib.Dec.{leb};
+ghost use mathlib.Core.Bool.{true, not, cond};
 ghost use Rattle.layout.specs.Below.{allBelow};
-ghost use Rattle.desk.specs.Desk.{isActive, isSealed, startOf};
+ghost use Rattle.desk.specs.Desk.{isActive, isSealed};
 ghost use Rattle.desk.specs.Coherent.{countOk, numberOk, slotOk, zeroCopyB, censusOf};
 ghost use Rattle.desk.specs.Strike.{struck, placePasses, struckPlaces, sessionPasses, entryPasses, struckEntry, quiet, zeroAt};
+use crate::session::is_active;
 use crate::session::is_idle;
 use crate::session::start_of;
 use crate::state::Desk;
@@ -52,7 +52,7 @@ fn slot_ok(count: u64, slot: u64) -> bool
     (slot <= 1) & ((1 <= count) | (slot == 0))
 }
 
-// What a session adds to the tally: 32 where it is active, 1 where it is sealed.
+// What a session adds to the tally, which counts both in one sum: 32 where it is active, 1 where it is sealed.
 fn tally_one(p: Phase) -> u64
     ensures { λ r. ⌜ r ≡ cond (isActive p) 1 0 * 32 + cond (isSealed p) 1 0 ⌝ }
 {
@@ -166,20 +166,8 @@ fn none_left(order: &[u8; 16]) -> bool
     ok
 }
 
-// Whether a session may stand in the list behind one with the start `last`: it is active, and its start is not below that.
-fn follows(p: Phase, last: u64) -> bool
-    ensures { λ r. ⌜ r ≡ isActive p && leb last (startOf p) ⌝ }
-{
-    match p {
-        Phase::Idle => false,
-        Phase::Active(start) => last <= start,
-        Phase::Sealed(_) => false,
-        Phase::Published(_) => false,
-    }
-}
-
-// The number of active sessions of a coherent desk; `INCOHERENT` of any other. All three passes stand here: a function that takes the desk
-// copies it.
+// The number of active sessions of a coherent desk; `INCOHERENT` of any other. All three passes stand here: a function that takes the
+// sessions copies them.
 pub fn census(d: Desk) -> usize
     ensures { λ r. ⌜ r ≡ censusOf d ⌝ }
 {
@@ -198,9 +186,7 @@ pub fn census(d: Desk) -> usize
     while s < 16 {
         let e = sessions[s];
         let p = e.phase;
-        let idle = is_idle(p);
-        let quiet = quiet_ok(e);
-        if !(!idle | quiet) {
+        if !(!is_idle(p) | quiet_ok(e)) {
             return INCOHERENT;
         }
         s += 1;
@@ -214,17 +200,15 @@ pub fn census(d: Desk) -> usize
         if !entry_ok(&mut h, clock, n, m, t, e) {
             return INCOHERENT;
         }
-        let one = tally_one(p);
-        tally = tally + one;
+        tally = tally + tally_one(p);
         t += 1;
     }
-    let sealed = tally % 32;
-    if CLOCK_MOST < clock + sealed {
+    if CLOCK_MOST < clock + tally % 32 {
         return INCOHERENT;
     }
     let active = (tally / 32) as usize;
     let list = d.order;
-    let mut order = list;
+    let mut left = list;
     let mut noted: [u8; 16] = [0; 16];
     let mut last: u64 = 0;
     let mut j: usize = 0;
@@ -239,14 +223,20 @@ pub fn census(d: Desk) -> usize
         noted[x] = 1;
         let e = sessions[x];
         let p = e.phase;
-        if !follows(p, last) {
+        if !is_active(p) {
             return INCOHERENT;
         }
-        order[j] = 0;
-        last = start_of(p);
+        let start = start_of(p);
+        if start < last {
+            return INCOHERENT;
+        }
+        left[j] = 0;
+        last = start;
         j += 1;
     }
-    let marks = all_zero(&h);
-    let places = none_left(&order);
-    if marks & places { active } else { INCOHERENT }
+    if all_zero(&h) & none_left(&left) {
+        active
+    } else {
+        INCOHERENT
+    }
 }

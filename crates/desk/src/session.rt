@@ -1,6 +1,6 @@
-// A session entry: what phase it is in, and how it is left idle. These are public for the crate above. `unmark` asks for at most 4 copies,
-// of records below 256, as the entries of a coherent desk have, and `leave` for a list that has the session, as a coherent desk's has every
-// active one.
+// A session entry: what phase it is in, how it is left idle, and how it leaves the list of active sessions. These are public for the crate
+// above. `unmark` asks for at most 4 copies, of records below 256, as the entries of a coherent desk have; `leave` for a list that has the
+// session once, and zeros behind the places in use, as a coherent desk's is for every active session.
 ghost use mathlib.Core.Path.{_≡_};
 ghost use Prim.Native.Nat.{ℕ, _≤_, _<_};
 ghost use lib.ListN.{getD};

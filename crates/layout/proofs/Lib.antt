@@ -9,3 +9,5 @@ pub mod TraceLaws
 pub mod Stored
 pub mod TidyLaws
 pub mod CeilingLaws
+pub mod Counts
+pub mod Order

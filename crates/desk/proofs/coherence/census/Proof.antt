@@ -3,7 +3,7 @@ use Prim.Native.Nat.{_≤_, _-_, _/_}
 use borrow.Author.Tests.{not-true, not-false}
 use native.Mathlib.Omega.{arith}
 use borrow.Author.Needs.{needs}
-use Rattle.desk.proofs.Walk.{Idles, Walk, Ended, Lists, sizes-fail, idles-start, idles-turn, idles-fail, walk-starts, walk-turns, walk-fails, tally-fits, clock-fits, clock-fails, walk-ends, lists-start, actives-few, lists-high, lists-twice, lists-fail, lists-turns, lists-end, lists-left}
+use Rattle.desk.proofs.Walk.{Idles, Walk, Ended, Lists, sizes-fail, idles-start, idles-turn, idles-fail, walk-starts, walk-turns, walk-fails, tally-fits, clock-fits, clock-fails, walk-ends, lists-start, actives-few, lists-high, lists-twice, lists-idle, lists-falls, lists-turns, lists-end, lists-left}
 use Rattle.desk.proofs.coherence.census.Statement.{statement}
 use Rattle.desk.proofs.coherence.census.Tie as tie
 
@@ -20,10 +20,10 @@ abbrev μ-loop2 : tie.MeasureT-loop2
 μ-loop2 d clock n m sizes sessions s h₀ tally₀ t₀ h tally t = 16 - t
 
 abbrev Inv-loop3 : tie.InvT-loop3
-Inv-loop3 clock n m sizes sessions s h tally t sealed active list order₀ noted₀ last₀ j₀ order noted last j = (j ≤ active) × Lists sessions list order noted last j
+Inv-loop3 clock n m sizes sessions s h tally t active list left₀ noted₀ last₀ j₀ left noted last j = (j ≤ active) × Lists sessions list left noted last j
 
 abbrev μ-loop3 : tie.MeasureT-loop3
-μ-loop3 clock n m sizes sessions s h tally t sealed active list order₀ noted₀ last₀ j₀ order noted last j = active - j
+μ-loop3 clock n m sizes sessions s h tally t active list left₀ noted₀ last₀ j₀ left noted last j = active - j
 
 -- before the third loop
 ended : (c : tie.After-list Inv-loop μ-loop Inv-loop2 μ-loop2 Inv-loop3 μ-loop3) → Ended (c .before .before .before .before .before .before .before .before .before .args .d) (c .before .before .before .loop2 .h) (c .before .before .before .loop2 .tally / 32)
@@ -132,26 +132,29 @@ mul-e-3 c = search needs
 array-copy-out-e-3 : tie.Need-array-copy-out-e-3 Inv-loop μ-loop Inv-loop2 μ-loop2 Inv-loop3 μ-loop3
 array-copy-out-e-3 c = search needs
 
-follows-requires : tie.Need-follows-requires Inv-loop μ-loop Inv-loop2 μ-loop2 Inv-loop3 μ-loop3
-follows-requires c κs = search needs
+is-active-requires : tie.Need-is-active-requires Inv-loop μ-loop Inv-loop2 μ-loop2 Inv-loop3 μ-loop3
+is-active-requires c κs = search needs
 
 returns-7 : tie.Need-returns-7 Inv-loop μ-loop Inv-loop2 μ-loop2 Inv-loop3 μ-loop3
-returns-7 c = lists-fail (ended (c .before .before .before .before .before .before .before)) ((c .before .before .before .before .before .before) .loop3 .inv .1) (search needs) (search needs) ((c .before .before .before) .if6 .left) (sym ((c .before) .follows .ensures) ∙ not-true _ (c .if7 .taken))
-
-array-write-order : tie.Need-array-write-order Inv-loop μ-loop Inv-loop2 μ-loop2 Inv-loop3 μ-loop3
-array-write-order c = omega (arith, actives-few (ended (c .before .before .before .before .before .before .before)))
+returns-7 c = lists-idle (ended (c .before .before .before .before .before .before .before)) ((c .before .before .before .before .before .before) .loop3 .inv .1) (search needs) (search needs) ((c .before .before .before) .if6 .left) (sym ((c .before) .is-active .ensures) ∙ not-true _ (c .if7 .taken))
 
 start-of-requires : tie.Need-start-of-requires Inv-loop μ-loop Inv-loop2 μ-loop2 Inv-loop3 μ-loop3
 start-of-requires c κs = search needs
 
+returns-8 : tie.Need-returns-8 Inv-loop μ-loop Inv-loop2 μ-loop2 Inv-loop3 μ-loop3
+returns-8 c = lists-falls (ended (c .before .before .before .before .before .before .before .before .before)) ((c .before .before .before .before .before .before .before .before) .loop3 .inv .1) (search needs) (search needs) ((c .before .before .before .before .before) .if6 .left) (omega (arith, (c .before) .start-of .ensures))
+
+array-write-left : tie.Need-array-write-left Inv-loop μ-loop Inv-loop2 μ-loop2 Inv-loop3 μ-loop3
+array-write-left c = omega (arith, actives-few (ended (c .before .before .before .before .before .before .before .before .before)))
+
 add-j : tie.Need-add-j Inv-loop μ-loop Inv-loop2 μ-loop2 Inv-loop3 μ-loop3
-add-j c = omega (arith, actives-few (ended (c .before .before .before .before .before .before .before .before)))
+add-j c = omega (arith, actives-few (ended (c .before .before .before .before .before .before .before .before .before)))
 
 loop3-less : tie.Need-loop3-less Inv-loop μ-loop Inv-loop2 μ-loop2 Inv-loop3 μ-loop3
 loop3-less c = search needs
 
 loop3-again : tie.Need-loop3-again Inv-loop μ-loop Inv-loop2 μ-loop2 Inv-loop3 μ-loop3
-loop3-again c = (search needs, rw (c .start-of .ensures) (lists-turns (ended (c .before .before .before .before .before .before .before .before)) ((c .before .before .before .before .before .before .before) .loop3 .inv .1) (search needs) (search needs) ((c .before .before .before .before) .if6 .left) (sym ((c .before .before) .follows .ensures) ∙ not-false _ ((c .before) .if7 .left))))
+loop3-again c = (search needs, rw ((c .before) .start-of .ensures) (lists-turns (ended (c .before .before .before .before .before .before .before .before .before)) ((c .before .before .before .before .before .before .before .before) .loop3 .inv .1) (search needs) (search needs) ((c .before .before .before .before .before) .if6 .left) (sym ((c .before .before .before) .is-active .ensures) ∙ not-false _ ((c .before .before) .if7 .left)) (omega (arith, (c .before) .start-of .ensures))))
 
 all-zero-requires : tie.Need-all-zero-requires Inv-loop μ-loop Inv-loop2 μ-loop2 Inv-loop3 μ-loop3
 all-zero-requires c κs = search needs
@@ -159,11 +162,11 @@ all-zero-requires c κs = search needs
 none-left-requires : tie.Need-none-left-requires Inv-loop μ-loop Inv-loop2 μ-loop2 Inv-loop3 μ-loop3
 none-left-requires c κs = search needs
 
-returns-8 : tie.Need-returns-8 Inv-loop μ-loop Inv-loop2 μ-loop2 Inv-loop3 μ-loop3
-returns-8 c = lists-end (ended (c .before .before .before .before .before .before .before)) ((c .before .before .before .before .before .before) .loop3 .inv .1) (omega arith) (rw ((c .before .before .before) .all-zero .ensures, (c .before) .none-left .ensures) at (c .if8 .taken))
-
 returns-9 : tie.Need-returns-9 Inv-loop μ-loop Inv-loop2 μ-loop2 Inv-loop3 μ-loop3
-returns-9 c = lists-left (ended (c .before .before .before .before .before .before .before)) ((c .before .before .before .before .before .before) .loop3 .inv .1) (omega arith) (rw ((c .before .before .before) .all-zero .ensures, (c .before) .none-left .ensures) at (c .if8 .left))
+returns-9 c = lists-end (ended (c .before .before .before .before .before .before .before)) ((c .before .before .before .before .before .before) .loop3 .inv .1) (omega arith) (rw ((c .before .before .before) .all-zero .ensures, (c .before) .none-left .ensures) at (c .if9 .taken))
+
+returns-10 : tie.Need-returns-10 Inv-loop μ-loop Inv-loop2 μ-loop2 Inv-loop3 μ-loop3
+returns-10 c = lists-left (ended (c .before .before .before .before .before .before .before)) ((c .before .before .before .before .before .before) .loop3 .inv .1) (omega arith) (rw ((c .before .before .before) .all-zero .ensures, (c .before) .none-left .ensures) at (c .if9 .left))
 
 pub census-spec : {M : Type 1} → statement M
 census-spec =
@@ -206,14 +209,15 @@ census-spec =
     array-write-noted
     mul-e-3
     array-copy-out-e-3
-    follows-requires
+    is-active-requires
     returns-7
-    array-write-order
     start-of-requires
+    returns-8
+    array-write-left
     add-j
     loop3-less
     loop3-again
     all-zero-requires
     none-left-requires
-    returns-8
-    returns-9)
+    returns-9
+    returns-10)

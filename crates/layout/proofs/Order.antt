@@ -6,10 +6,10 @@ use mathlib.Core.Logic.{_⊎_, inl, inr}
 use native.Mathlib.Omega.{arith}
 use lib.Dec.{eqb, ltb}
 use borrow.Author.Tests.{ne-eqb, eq-eqb, ltb-true, ltb-false}
 use Rattle.layout.specs.Below.{anyBelow, countBelow}
 use Rattle.layout.proofs.BelowLaws.{count-most}
 use Rattle.layout.proofs.Says.{says-eq, says-any, says-not, by-test, by-case}
-use Rattle.desk.proofs.Counts.{by-same, adds, count-same, count-changed, count-none}
+use Rattle.layout.proofs.Counts.{by-same, adds, count-same, count-changed, count-none}
 
 -- place j behind place i: another session, and the start does not fall
 abbrev pub Follows : (ℕ → ℕ) → (ℕ → ℕ) → ℕ → ℕ → Type 0
