@@ -1,0 +1,15 @@
+use Rattle.layout.specs.Image.{occupied_at, occupied_b}
+use Rattle.layout.specs.Below.{any_below}
+use Rattle.layout.proofs.BelowLaws.{any-more, any-finds}
+use borrow.Author.Tests.{eq-eqb, ne_eqb}
+use native.Mathlib.Omega.{arith}
+use mathlib.Core.Bool.{false, not}
+use mathlib.Core.Path.{◌≡◌, refl, sym, ap, ◌∙◌}
+use Prim.Native.Nat.{◌≤◌, ◌-◌}
+use Rattle.journal.proofs.scan.occupied.Given as goal
+
+abbrev pub invariant-loop-i : goal.invariant-loop-i
+invariant-loop-i l = (l.i ≤ l.slots) × (any_below l.i (occupied_at l.image l.n) ≡ false)
+
+abbrev pub decreases-loop-i : goal.decreases-loop-i
+decreases-loop-i l = l.slots - l.i
