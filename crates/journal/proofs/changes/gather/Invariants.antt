@@ -1,13 +1,10 @@
-use native.Mathlib.Omega.{arith}
-use Prim.Native.Nat.{ℕ, ◌≤◌, ◌*◌, ◌-◌}
+use Prim.Native.Nat.{ℕ, ◌≤◌, ◌-◌}
 use mathlib.Core.List.{List}
 use lib.ListN.{get_or}
 use Rattle.layout.specs.Image.{home_words}
 use Rattle.desk.specs.Desk.{no_copy}
 use Rattle.desk.specs.declared.state.RecordCopy.{RecordCopy}
 use Rattle.journal.specs.Changes.{changes_below, Noted}
-use Rattle.journal.proofs.ChangesLaws.{noted-none}
-use Rattle.journal.proofs.WalkLaws.{next-found, walk-next, found_all, found-end, both-tests}
 use Rattle.journal.proofs.changes.gather.Given as goal
 
 -- the records and the words of copies

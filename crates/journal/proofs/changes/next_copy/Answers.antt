@@ -1,12 +1,8 @@
 use native.Mathlib.Omega.{arith}
 use native.Mathlib.Numerals.{add-one}
 use mathlib.Core.Path.{◌≡◌, refl, ◌∙◌}
-use Prim.Native.Nat.{◌≤◌, ◌-◌}
-use lib.ListN.{get_or}
 use borrow.Author.Tests.{ltb-true}
 use Rattle.layout.specs.Oldest.{oldest_of}
-use Rattle.desk.specs.Desk.{no_copy}
-use Rattle.journal.specs.Changes.{key_at}
 use Rattle.journal.proofs.changes.next_copy.Goals as goal
 use borrow.Author.Rules.{rules}
 

@@ -1,9 +1,6 @@
-use native.Mathlib.Omega.{arith}
-use native.Mathlib.Numerals.{add-one}
-use mathlib.Core.Path.{◌≡◌, refl, ◌∙◌}
+use mathlib.Core.Path.{◌≡◌}
 use Prim.Native.Nat.{◌≤◌, ◌-◌}
 use lib.ListN.{get_or}
-use borrow.Author.Tests.{ltb-true}
 use Rattle.layout.specs.Oldest.{oldest_of}
 use Rattle.desk.specs.Desk.{no_copy}
 use Rattle.journal.specs.Changes.{key_at}

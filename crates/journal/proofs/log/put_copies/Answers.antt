@@ -1,16 +1,9 @@
-use Prim.Native.Nat.{ℕ, ◌≤◌, ◌+◌, ◌*◌, ◌-◌}
-use mathlib.Core.List.{List}
 use mathlib.Core.Path.{◌≡◌}
 use native.Mathlib.Numerals.{add-one}
 use native.Mathlib.Omega.{arith}
-use lib.ListN.{length, get_or}
 use Rattle.layout.proofs.Groups.{stores-append}
-use Rattle.layout.specs.Entries.{Write, stores}
 use Rattle.journal.specs.Log.{body_writes}
-use Rattle.layout.specs.Trace.{Did}
 use Rattle.layout.proofs.TraceLaws.{and_then}
-use Rattle.desk.specs.Desk.{no_copy}
-use Rattle.desk.specs.declared.state.RecordCopy.{RecordCopy}
 use Rattle.journal.proofs.log.put_copies.Goals as goal
 use Rattle.journal.proofs.Clauses.{did-value}
 use borrow.Author.Rules.{rules}

@@ -1,12 +1,7 @@
-use Prim.Native.Nat.{ℕ, ◌≤◌, ◌+◌, ◌*◌, ◌-◌}
-use mathlib.Core.List.{List}
 use mathlib.Core.Path.{◌≡◌}
 use native.Mathlib.Numerals.{add-one}
 use native.Mathlib.Omega.{arith}
-use lib.ListN.{length, get_or}
 use Rattle.layout.proofs.Groups.{stores-append}
-use Rattle.layout.specs.Entries.{Write, stores}
-use Rattle.layout.specs.Trace.{Did}
 use Rattle.layout.proofs.TraceLaws.{and_then}
 use Rattle.journal.specs.Log.{short_writes}
 use Rattle.journal.proofs.log.put_pairs.Goals as goal

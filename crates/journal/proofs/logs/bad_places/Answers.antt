@@ -3,9 +3,7 @@ use Rattle.layout.specs.Image.{slot_word}
 use Rattle.layout.specs.Below.{any_below}
 use Rattle.layout.proofs.BelowLaws.{any-more, any-finds}
 use native.Mathlib.Omega.{arith}
-use mathlib.Core.Bool.{false}
 use mathlib.Core.Path.{◌≡◌, refl, sym, ◌∙◌}
-use Prim.Native.Nat.{◌≤◌, ◌-◌}
 use Rattle.journal.proofs.logs.bad_places.Goals as goal
 use borrow.Author.Rules.{rules}
 

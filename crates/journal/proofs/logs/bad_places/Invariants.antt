@@ -1,10 +1,8 @@
 use Rattle.journal.specs.Log.{bad_place}
 use Rattle.layout.specs.Image.{slot_word}
 use Rattle.layout.specs.Below.{any_below}
-use Rattle.layout.proofs.BelowLaws.{any-more, any-finds}
-use native.Mathlib.Omega.{arith}
 use mathlib.Core.Bool.{false}
-use mathlib.Core.Path.{◌≡◌, refl, sym, ◌∙◌}
+use mathlib.Core.Path.{◌≡◌}
 use Prim.Native.Nat.{◌≤◌, ◌-◌}
 use Rattle.journal.proofs.logs.bad_places.Given as goal
 

@@ -5,9 +5,7 @@ use Rattle.layout.proofs.BelowLaws.{any-more, any-finds}
 use borrow.Author.Tests.{eq-eqb, ne_eqb}
 use native.Mathlib.Omega.{arith}
 use lib.Dec.{eqb}
-use mathlib.Core.Bool.{false}
 use mathlib.Core.Path.{◌≡◌, refl, sym}
-use Prim.Native.Nat.{◌≤◌, ◌-◌}
 use Rattle.journal.proofs.logs.repeats.Goals as goal
 use borrow.Author.Rules.{rules}
 

@@ -1,12 +1,9 @@
 use Rattle.journal.specs.Log.{rec_of}
 use Rattle.layout.specs.Image.{slot_word}
 use Rattle.layout.specs.Below.{any_below}
-use Rattle.layout.proofs.BelowLaws.{any-more, any-finds}
-use borrow.Author.Tests.{eq-eqb, ne_eqb}
-use native.Mathlib.Omega.{arith}
 use lib.Dec.{eqb}
 use mathlib.Core.Bool.{false}
-use mathlib.Core.Path.{◌≡◌, refl, sym}
+use mathlib.Core.Path.{◌≡◌}
 use Prim.Native.Nat.{◌≤◌, ◌-◌}
 use Rattle.journal.proofs.logs.repeats.Given as goal
 

@@ -1,10 +1,8 @@
-use Rattle.journal.specs.Log.{places_of, place_shared, shared_b}
+use Rattle.journal.specs.Log.{place_shared}
 use Rattle.layout.specs.Image.{slot_word}
 use Rattle.layout.specs.Below.{any_below}
-use Rattle.layout.proofs.BelowLaws.{any-more, any-finds}
-use native.Mathlib.Omega.{arith}
 use mathlib.Core.Bool.{false}
-use mathlib.Core.Path.{◌≡◌, refl, sym}
+use mathlib.Core.Path.{◌≡◌}
 use Prim.Native.Nat.{◌≤◌, ◌-◌}
 use Rattle.journal.proofs.logs.shared.Given as goal
 

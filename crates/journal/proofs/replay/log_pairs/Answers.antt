@@ -1,7 +1,6 @@
 use native.Mathlib.Omega.{arith}
-use mathlib.Core.Path.{◌≡◌, refl}
-use Prim.Native.Nat.{ℕ, ◌≤◌, ◌<◌, ◌+◌, ◌-◌}
-use lib.ListN.{length, get_or}
+use mathlib.Core.Path.{refl}
+use Prim.Native.Nat.{◌+◌}
 use Rattle.layout.specs.Image.{slot_word}
 use Rattle.journal.proofs.DenotedLaws.{set_more}
 use Rattle.journal.proofs.replay.log_pairs.Goals as goal

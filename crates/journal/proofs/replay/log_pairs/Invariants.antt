@@ -1,9 +1,7 @@
-use native.Mathlib.Omega.{arith}
-use mathlib.Core.Path.{◌≡◌, refl}
+use mathlib.Core.Path.{◌≡◌}
 use Prim.Native.Nat.{ℕ, ◌≤◌, ◌<◌, ◌+◌, ◌-◌}
 use lib.ListN.{length, get_or}
 use Rattle.layout.specs.Image.{slot_word}
-use Rattle.journal.proofs.DenotedLaws.{set_more}
 use Rattle.journal.proofs.replay.log_pairs.Given as goal
 
 abbrev pub invariant-loop-w : goal.invariant-loop-w

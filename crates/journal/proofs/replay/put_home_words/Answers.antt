@@ -1,11 +1,7 @@
 use native.Mathlib.Omega.{arith}
 use native.Mathlib.Numerals.{add-one}
 use mathlib.Core.Path.{◌≡◌}
-use Prim.Native.Nat.{◌≤◌, ◌+◌, ◌*◌, ◌-◌}
-use lib.ListN.{length, get_or}
 use Rattle.layout.proofs.Groups.{stores-append}
-use Rattle.layout.specs.Entries.{stores}
-use Rattle.layout.specs.Trace.{Did}
 use Rattle.layout.proofs.TraceLaws.{and_then, did_none}
 use Rattle.journal.specs.Log.{pairs_writes}
 use Rattle.journal.proofs.replay.put_home_words.Goals as goal

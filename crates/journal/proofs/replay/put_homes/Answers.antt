@@ -1,13 +1,8 @@
 use native.Mathlib.Omega.{arith}
 use native.Mathlib.Numerals.{add-one}
 use mathlib.Core.Path.{◌≡◌}
-use Prim.Native.Nat.{◌≤◌, ◌*◌, ◌-◌}
-use lib.ListN.{length, get_or}
-use Rattle.desk.specs.Desk.{no_copy}
 use Rattle.layout.proofs.Groups.{stores-append}
 use Rattle.layout.specs.Homes.{homes_writes}
-use Rattle.layout.specs.Entries.{stores}
-use Rattle.layout.specs.Trace.{Did}
 use Rattle.layout.proofs.TraceLaws.{and_then, did_none}
 use Rattle.journal.proofs.replay.put_homes.Goals as goal
 use Rattle.journal.proofs.Clauses.{did-value}

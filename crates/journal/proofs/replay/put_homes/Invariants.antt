@@ -1,14 +1,10 @@
-use native.Mathlib.Omega.{arith}
-use native.Mathlib.Numerals.{add-one}
 use mathlib.Core.Path.{◌≡◌}
 use Prim.Native.Nat.{◌≤◌, ◌*◌, ◌-◌}
 use lib.ListN.{length, get_or}
 use Rattle.desk.specs.Desk.{no_copy}
-use Rattle.layout.proofs.Groups.{stores-append}
 use Rattle.layout.specs.Homes.{homes_writes}
 use Rattle.layout.specs.Entries.{stores}
 use Rattle.layout.specs.Trace.{Did}
-use Rattle.layout.proofs.TraceLaws.{and_then, did_none}
 use Rattle.journal.proofs.replay.put_homes.Given as goal
 
 abbrev pub invariant-loop-j : goal.invariant-loop-j

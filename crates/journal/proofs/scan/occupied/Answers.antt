@@ -3,9 +3,8 @@ use Rattle.layout.specs.Below.{any_below}
 use Rattle.layout.proofs.BelowLaws.{any-more, any-finds}
 use borrow.Author.Tests.{eq-eqb, ne_eqb}
 use native.Mathlib.Omega.{arith}
-use mathlib.Core.Bool.{false, not}
+use mathlib.Core.Bool.{not}
 use mathlib.Core.Path.{◌≡◌, refl, sym, ap, ◌∙◌}
-use Prim.Native.Nat.{◌≤◌, ◌-◌}
 use Rattle.journal.proofs.scan.occupied.Goals as goal
 use borrow.Author.Rules.{rules}
 

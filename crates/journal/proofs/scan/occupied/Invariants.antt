@@ -1,10 +1,7 @@
-use Rattle.layout.specs.Image.{occupied_at, occupied_b}
+use Rattle.layout.specs.Image.{occupied_at}
 use Rattle.layout.specs.Below.{any_below}
-use Rattle.layout.proofs.BelowLaws.{any-more, any-finds}
-use borrow.Author.Tests.{eq-eqb, ne_eqb}
-use native.Mathlib.Omega.{arith}
-use mathlib.Core.Bool.{false, not}
-use mathlib.Core.Path.{◌≡◌, refl, sym, ap, ◌∙◌}
+use mathlib.Core.Bool.{false}
+use mathlib.Core.Path.{◌≡◌}
 use Prim.Native.Nat.{◌≤◌, ◌-◌}
 use Rattle.journal.proofs.scan.occupied.Given as goal
 

@@ -1,9 +1,7 @@
 use Rattle.layout.specs.Oldest.{oldest_of}
-use Rattle.layout.specs.Image.{persist_at}
 use native.Mathlib.Numerals.{add-one}
 use native.Mathlib.Omega.{arith}
 use mathlib.Core.Path.{◌≡◌, refl, ◌∙◌}
-use Prim.Native.Nat.{◌≤◌, ◌-◌}
 use Rattle.journal.proofs.scan.oldest_log.Goals as goal
 use borrow.Author.Rules.{rules}
 
