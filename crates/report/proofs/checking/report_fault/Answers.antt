@@ -1,7 +1,7 @@
 use mathlib.Core.Bool.{true, not}
 use mathlib.Core.Path.{◌≡◌, sym, ap, ◌∙◌}
 use native.Mathlib.Omega.{arith}
-use borrow.Author.Tests.{not-true, not-false, lt-leb, le-leb}
+use borrow.Author.Tests.{lt-leb, le-leb}
 use Rattle.layout.specs.Checks.{first}
 use Rattle.layout.specs.Image.{shaped_b}
 use Rattle.layout.proofs.Shape.{Shaped, says-shaped}

@@ -1,6 +1,6 @@
 use Rattle.layout.specs.Image.{home_words}
 use Rattle.layout.proofs.BelowLaws.{count_most}
-use Prim.Native.Nat.{◌≤◌, ◌-◌, ◌+◌}
+use Prim.Native.Nat.{◌+◌}
 use mathlib.Core.Path.{◌≡◌, refl, ap, ◌∙◌}
 use native.Mathlib.Omega.{arith}
 use Rattle.layout.specs.Below.{count_below}

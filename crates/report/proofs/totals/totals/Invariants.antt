@@ -1,14 +1,7 @@
-use Rattle.layout.specs.Image.{home_words}
-use Rattle.layout.proofs.BelowLaws.{count_most}
-use Prim.Native.Nat.{◌≤◌, ◌-◌, ◌+◌}
-use mathlib.Core.Path.{◌≡◌, refl, ap, ◌∙◌}
-use native.Mathlib.Omega.{arith}
-use Rattle.layout.specs.Below.{count_below}
-use Rattle.reels.specs.Reel.{reel_of, unused_b}
-use Rattle.reels.specs.declared.reel.Reel.{Reel}
-use Rattle.report.specs.Report.{reel_b, bad_b, sum_below, count_to, seconds_to}
-use Rattle.report.specs.Turns.{kind_of}
-use Rattle.report.proofs.Sums.{reel-more, seconds-more, bad_more, unused-more, seconds-most}
+use Prim.Native.Nat.{◌≤◌, ◌-◌}
+use mathlib.Core.Path.{◌≡◌}
+use Rattle.reels.specs.Reel.{unused_b}
+use Rattle.report.specs.Report.{reel_b, bad_b, count_to, seconds_to}
 use Rattle.report.proofs.totals.totals.Given as goal
 
 abbrev pub invariant-loop-r : goal.invariant-loop-r

@@ -1,8 +1,5 @@
-use Prim.Native.Nat.{ℕ, ◌-◌, ◌<◌, ◌≤◌}
-use mathlib.Core.Bool.{true}
-use mathlib.Core.Path.{◌≡◌, sym, ◌∙◌}
+use mathlib.Core.Path.{sym, ◌∙◌}
 use native.Mathlib.Omega.{arith}
-use Rattle.report.specs.Turns.{idle_at}
 use Rattle.report.proofs.Turned.{idle-more}
 use Rattle.report.proofs.turning.next_turn.Goals as goal
 

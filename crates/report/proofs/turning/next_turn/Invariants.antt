@@ -1,9 +1,7 @@
 use Prim.Native.Nat.{ℕ, ◌-◌, ◌<◌, ◌≤◌}
 use mathlib.Core.Bool.{true}
-use mathlib.Core.Path.{◌≡◌, sym, ◌∙◌}
-use native.Mathlib.Omega.{arith}
+use mathlib.Core.Path.{◌≡◌}
 use Rattle.report.specs.Turns.{idle_at}
-use Rattle.report.proofs.Turned.{idle-more}
 use Rattle.report.proofs.turning.next_turn.Given as goal
 
 abbrev pub invariant-loop-j : goal.invariant-loop-j

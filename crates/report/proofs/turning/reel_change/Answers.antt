@@ -12,4 +12,4 @@ pub returns-in-3 : goal.returns-in-3
 returns-in-3 c = rw (c.changes-in-3.ensures, c.in-3.is)
 
 pub returns-in_default : goal.returns-in_default
-returns-in_default c = let n = c.in-1.rest in c.changes-in_default.ensures ∙ sym (reel-none _ _ n.0.0.1 n.0.1 n.1)
+returns-in_default c = let n = c.in_default.in_default-own.rest in c.changes-in_default.ensures ∙ sym (reel-none _ _ n.0.0.1 n.0.1 n.1)
