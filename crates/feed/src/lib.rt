@@ -32,3 +32,21 @@ pub fn refill(mut stdin: Stdin, buf: &mut [u8], at: usize, have: usize) -> usize
         Err(_) => 0,
     }
 }
+
+// Reads until the buffer is full, the input ends or a read fails; the answer is how many bytes came, which stand first.
+pub fn read_full(mut stdin: Stdin, buf: &mut [u8]) -> usize
+    ensures { result ≤ length buf.new }
+{
+    let mut have: usize = 0;
+    while have < buf.len() {
+        let came = match stdin.read(&mut buf[have..]) {
+            Ok(n) => n,
+            Err(_) => 0,
+        };
+        if came == 0 {
+            break;
+        }
+        have += came;
+    }
+    have
+}
