@@ -10,14 +10,14 @@ use desk::{
     Desk, INCOHERENT, LIMIT, Phase, census, entry_fault, idle_session, is_active, leave, with_phase,
 };
 
-#[derive(Drop)]
+#[derive(Clone, Copy)]
 pub enum FinishAnswer {
     Refused(u64),
     Empty,
     Sealed(u64),
 }
 
-#[derive(Drop)]
+#[derive(Clone, Copy)]
 pub struct FinishReply {
     pub answer: FinishAnswer,
     pub entries: u64,

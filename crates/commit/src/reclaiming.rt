@@ -9,7 +9,7 @@ ghost use Rattle.commit.specs.Told.{reclaim_told};
 use desk::{Desk, INCOHERENT, Session, census, entry_fault, is_published, is_sealed};
 use layout::{Oldest, older};
 
-#[derive(Drop)]
+#[derive(Clone, Copy)]
 pub enum ReclaimAnswer {
     Refused(u64),
     None,
@@ -17,7 +17,7 @@ pub enum ReclaimAnswer {
     Cleared(u64),
 }
 
-#[derive(Drop)]
+#[derive(Clone, Copy)]
 pub struct ReclaimReply {
     pub answer: ReclaimAnswer,
     pub entries: u64,

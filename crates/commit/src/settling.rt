@@ -6,14 +6,14 @@ ghost use Rattle.commit.specs.Told.{settle_told};
 
 use desk::{Desk, INCOHERENT, Phase, census, entry_fault, idle_session, is_published, unmark};
 
-#[derive(Drop)]
+#[derive(Clone, Copy)]
 pub enum SettleAnswer {
     Refused(u64),
     Wait(u64),
     Ok,
 }
 
-#[derive(Drop)]
+#[derive(Clone, Copy)]
 pub struct SettleReply {
     pub answer: SettleAnswer,
     pub entries: u64,

@@ -8,13 +8,13 @@ use crate::entering::session_fault;
 use crate::session::{idle_session, is_active, leave, unmark};
 use crate::state::Desk;
 
-#[derive(Drop)]
+#[derive(Clone, Copy)]
 pub enum AbandonAnswer {
     Refused(u64),
     Ok,
 }
 
-#[derive(Drop)]
+#[derive(Clone, Copy)]
 pub struct AbandonReply {
     pub answer: AbandonAnswer,
     pub desk: Desk,

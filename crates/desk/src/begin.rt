@@ -8,13 +8,13 @@ use crate::entering::session_fault;
 use crate::session::{is_idle, with_phase};
 use crate::state::{Desk, Phase};
 
-#[derive(Drop)]
+#[derive(Clone, Copy)]
 pub enum BeginAnswer {
     Refused(u64),
     Start(u64),
 }
 
-#[derive(Drop)]
+#[derive(Clone, Copy)]
 pub struct BeginReply {
     pub answer: BeginAnswer,
     pub desk: Desk,

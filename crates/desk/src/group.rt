@@ -14,7 +14,7 @@ use crate::session::{is_sealed, with_phase};
 use crate::state::{Desk, Phase};
 
 // What was seen of the members so far: whether there is one, whether all are below M, and whether all are sealed.
-#[derive(Drop)]
+#[derive(Clone, Copy)]
 struct Members {
     some: bool,
     low: bool,

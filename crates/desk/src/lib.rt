@@ -1,5 +1,7 @@
 // The volatile transaction table, its coherence, the first checks of the calls that take it, and begin, publish (of one session and of a
 // set) and abandon.
+#![tactic(auto)]
+
 mod abandon;
 mod begin;
 mod coherence;

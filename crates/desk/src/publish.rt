@@ -10,13 +10,13 @@ use crate::entering::entry_fault;
 use crate::session::{is_sealed, with_phase};
 use crate::state::{Desk, Phase};
 
-#[derive(Drop)]
+#[derive(Clone, Copy)]
 pub enum PublishAnswer {
     Refused(u64),
     End(u64),
 }
 
-#[derive(Drop)]
+#[derive(Clone, Copy)]
 pub struct PublishReply {
     pub answer: PublishAnswer,
     pub entries: u64,

@@ -1,14 +1,14 @@
 // The working state of an opened store. It goes in and comes back by value, and is lost when power fails.
 
 // A copy of a record, newer than the home record: the record's number and its four words.
-#[derive(Drop)]
+#[derive(Clone, Copy)]
 pub struct RecordCopy {
     pub rec: u64,
     pub words: [u64; 4],
 }
 
 // What a session is doing: active with a start number, sealed with a persist number, published with an end number.
-#[derive(Drop)]
+#[derive(Clone, Copy)]
 pub enum Phase {
     Idle,
     Active(u64),
@@ -17,7 +17,7 @@ pub enum Phase {
 }
 
 // A session entry: its phase, its copies (the first `count` places) and the log slot reserved for them.
-#[derive(Drop)]
+#[derive(Clone, Copy)]
 pub struct Session {
     pub phase: Phase,
     pub count: u64,
@@ -28,7 +28,7 @@ pub struct Session {
 // The desk, document 01's term for the volatile transaction table: the clock, the numbers of records and sessions, the holder mark of each
 // record (0: none, s + 1: session s), the session entries, and the list of active sessions, from the one that began first on, with 0 in the
 // places that are not used.
-#[derive(Drop)]
+#[derive(Clone, Copy)]
 pub struct Desk {
     pub clock: u64,
     pub n: u64,

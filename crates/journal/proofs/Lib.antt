@@ -6,3 +6,4 @@ pub mod ChangesLaws
 pub mod GatheredLaws
 pub mod DenotedLaws
 pub mod WalkLaws
+pub mod Clauses

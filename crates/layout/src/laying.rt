@@ -3,7 +3,7 @@ ghost use Rattle.std.specs.Prelude.{◌≡◌, length, replicate};
 ghost use Rattle.layout.specs.Lay.{lay_fault, lay_answer, laid_image, lay_said};
 ghost use Rattle.layout.specs.Told.{lay_told};
 
-#[derive(Drop)]
+#[derive(Clone, Copy)]
 pub enum LayAnswer {
     Refused(u64),
     Laid,

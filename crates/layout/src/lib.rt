@@ -1,5 +1,7 @@
 // The image: where its parts lie, reading and laying it, and storing to it with a trace (document 01's strip) of every store.
 // `lay` is a call that users make. `ceiling`, `index`, `oldest` and `trace` are for the crates above alone: their functions say what they need.
+#![tactic(auto)]
+
 mod ceiling;
 mod image;
 mod index;

@@ -4,7 +4,7 @@ ghost use Rattle.std.specs.Prelude.{◌≡◌};
 ghost use Rattle.layout.specs.Oldest.{older as olderOf};
 
 // The oldest so far: its number, 0 where there is none yet, and its place.
-#[derive(Drop)]
+#[derive(Clone, Copy)]
 pub struct Oldest {
     pub number: u64,
     pub place: u64,

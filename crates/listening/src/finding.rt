@@ -10,14 +10,14 @@ use crate::listener::listener_fault;
 use desk::{Desk, start_of};
 use snapshot::{marked_session, seen};
 
-#[derive(Drop)]
+#[derive(Clone, Copy)]
 pub enum FindAnswer {
     Refused(u64),
     Found(u64),
     None,
 }
 
-#[derive(Drop)]
+#[derive(Clone, Copy)]
 pub struct FindReply {
     pub answer: FindAnswer,
     pub desk: Desk,

@@ -6,13 +6,13 @@ ghost use Rattle.recovery.specs.Told.{open_told};
 
 use desk::{Desk, LIMIT, idle_session};
 
-#[derive(Drop)]
+#[derive(Clone, Copy)]
 pub enum OpenAnswer {
     Refused(u64),
     Ok,
 }
 
-#[derive(Drop)]
+#[derive(Clone, Copy)]
 pub struct OpenReply {
     pub answer: OpenAnswer,
     pub entries: u64,

@@ -6,7 +6,7 @@ ghost use Rattle.recovery.specs.Recover.{unsound_place, tied_below, ties_b, reco
 ghost use Rattle.recovery.specs.Recover.{recover_entries, recover_reply, recover_said};
 ghost use Rattle.recovery.specs.Told.{recover_told};
 
-#[derive(Drop)]
+#[derive(Clone, Copy)]
 pub enum RecoverAnswer {
     Refused(u64),
     Unsound(u64),
@@ -14,7 +14,7 @@ pub enum RecoverAnswer {
     Replayed(u64),
 }
 
-#[derive(Drop)]
+#[derive(Clone, Copy)]
 pub struct RecoverReply {
     pub answer: RecoverAnswer,
     pub entries: u64,

@@ -5,14 +5,14 @@ ghost use Rattle.reels.specs.Told.{pack_told};
 
 use crate::reel::{Reel, pack_fault, words_of};
 
-#[derive(Drop)]
+#[derive(Clone, Copy)]
 pub enum PackAnswer {
     Refused(u64),
     Packed,
 }
 
 // Four zeros where the reel is refused.
-#[derive(Drop)]
+#[derive(Clone, Copy)]
 pub struct PackReply {
     pub answer: PackAnswer,
     pub words: [u64; 4],

@@ -10,7 +10,7 @@ use crate::unpacking::{ReelAnswer, UnpackReply, unpack, unpacks};
 use store::{Desk, ReadAnswer};
 
 // The source is the store's own answer: own, copy or home, or its refusal.
-#[derive(Drop)]
+#[derive(Clone, Copy)]
 pub struct ReadReelReply {
     pub answer: ReelAnswer,
     pub source: ReadAnswer,

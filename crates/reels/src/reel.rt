@@ -2,7 +2,7 @@
 ghost use Rattle.std.specs.Prelude.{◌≡◌};
 ghost use Rattle.reels.specs.Reel.{reel_of, words_of, no_reel, shelf_b, allowed_b, reel_fault, speedless_b, pack_fault, unused_b};
 
-#[derive(Drop)]
+#[derive(Clone, Copy)]
 pub struct Reel {
     pub shelf: u64,
     pub carrier: u64,

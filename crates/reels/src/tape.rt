@@ -7,7 +7,7 @@ ghost use Rattle.reels.specs.Told.{length_told};
 use crate::reel::Reel;
 use crate::unpacking::{ReelAnswer, unpack};
 
-#[derive(Drop)]
+#[derive(Clone, Copy)]
 pub enum LengthAnswer {
     Refused(u64),
     Unknown,

@@ -6,7 +6,7 @@ ghost use Rattle.reels.specs.Told.{reel_told};
 use crate::reel::{Reel, no_reel, reel_fault, reel_of, speedless, unused};
 
 // Found and SpeedToFind come with the reel; the latter marks an open reel without a speed.
-#[derive(Drop)]
+#[derive(Clone, Copy)]
 pub enum ReelAnswer {
     Refused(u64),
     Unused,
@@ -15,7 +15,7 @@ pub enum ReelAnswer {
 }
 
 // Four zeros where the record is unused or refused.
-#[derive(Drop)]
+#[derive(Clone, Copy)]
 pub struct UnpackReply {
     pub answer: ReelAnswer,
     pub reel: Reel,

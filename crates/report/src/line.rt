@@ -3,14 +3,14 @@ ghost use Rattle.std.specs.Prelude.{◌≡◌};
 ghost use Rattle.report.specs.Lines.{updated, CanUpdate, change_of};
 
 // The reels of one carrier, and their seconds.
-#[derive(Drop)]
+#[derive(Clone, Copy)]
 pub struct CarrierLine {
     pub reels: u64,
     pub seconds: u64,
 }
 
 // One change of one line: keep is 0 where the line begins afresh, else 1.
-#[derive(Drop)]
+#[derive(Clone, Copy)]
 pub struct Change {
     pub line: u64,
     pub keep: u64,

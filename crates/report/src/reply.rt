@@ -1,13 +1,13 @@
 // What the report answers.
 
-#[derive(Drop)]
+#[derive(Clone, Copy)]
 pub enum ReportAnswer {
     Refused(u64),
     Filled,
 }
 
 // Over all three carriers the reels and their seconds; the bad records, and the unused ones. All 0 where it is refused.
-#[derive(Drop)]
+#[derive(Clone, Copy)]
 pub struct ReportReply {
     pub answer: ReportAnswer,
     pub reels: u64,

@@ -11,7 +11,7 @@ use crate::totals::totals;
 use crate::turning::{change_at, next_turn, turns};
 
 // The reply, and the table behind it: the lines of carriers 1 to 3.
-#[derive(Drop)]
+#[derive(Clone, Copy)]
 pub struct FilledTable {
     pub reply: ReportReply,
     pub lines: [CarrierLine; 3],

@@ -7,7 +7,7 @@ use crate::copies::own_place;
 use crate::seeing::{marked_session, seen};
 use desk::{Desk, INCOHERENT, census, is_active, record_fault, start_of};
 
-#[derive(Drop)]
+#[derive(Clone, Copy)]
 pub enum ReadAnswer {
     Refused(u64),
     Own,
@@ -15,7 +15,7 @@ pub enum ReadAnswer {
     Home,
 }
 
-#[derive(Drop)]
+#[derive(Clone, Copy)]
 pub struct ReadReply {
     pub answer: ReadAnswer,
     pub words: [u64; 4],

@@ -9,7 +9,7 @@ use crate::reading::ReadAnswer;
 use desk::{Phase, Session};
 
 // Copy or home, and the words.
-#[derive(Drop)]
+#[derive(Clone, Copy)]
 pub struct Sight {
     pub answer: ReadAnswer,
     pub words: [u64; 4],

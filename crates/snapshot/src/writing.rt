@@ -10,14 +10,14 @@ use desk::{
     unmark,
 };
 
-#[derive(Drop)]
+#[derive(Clone, Copy)]
 pub enum WriteAnswer {
     Refused(u64),
     Taken(u64),
     Ok,
 }
 
-#[derive(Drop)]
+#[derive(Clone, Copy)]
 pub struct WriteReply {
     pub answer: WriteAnswer,
     pub desk: Desk,

@@ -4,10 +4,8 @@ use mathlib.Core.List.{append-nil}
 use lib.ListN.{drop_of_length-le}
 use borrow.Author.Fill.{fill_more}
 use native.Mathlib.Omega.{arith}
-use lib.ListN.{length, replicate, drop, length-set}
-use mathlib.Core.List.{◌++◌}
+use lib.ListN.{length, drop, length-set}
 use mathlib.Core.Path.{◌≡◌, refl, ◌∙◌}
-use Prim.Native.Nat.{◌≤◌, ◌-◌}
 use Rattle.layout.proofs.laying.clear.Goals as goal
 use borrow.Author.Rules.{rules}
 

@@ -1,12 +1,6 @@
-use native.Mathlib.Nat.{le_refl}
-use mathlib.Core.List.{[]}
-use mathlib.Core.List.{append-nil}
-use lib.ListN.{drop_of_length-le}
-use borrow.Author.Fill.{fill_more}
-use native.Mathlib.Omega.{arith}
-use lib.ListN.{length, replicate, drop, length-set}
+use lib.ListN.{length, replicate, drop}
 use mathlib.Core.List.{◌++◌}
-use mathlib.Core.Path.{◌≡◌, refl, ◌∙◌}
+use mathlib.Core.Path.{◌≡◌}
 use Prim.Native.Nat.{◌≤◌, ◌-◌}
 use Rattle.layout.proofs.laying.clear.Given as goal
 
