@@ -4,3 +4,4 @@ pub mod FinishLaws
 pub mod Front
 pub mod SettleLaws
 pub mod ReclaimLaws
+pub mod Clauses

@@ -1,4 +1,6 @@
 // Finish, settle and reclaim: a transaction's log is written, its copies go home, and its slot is emptied.
+#![tactic(auto)]
+
 mod finishing;
 mod reclaiming;
 mod settling;

@@ -4,7 +4,6 @@ use mathlib.Core.Path.{◌≡◌, ◌∙◌}
 use mathlib.Core.Logic.{inl, inr, ◌≢◌}
 use native.Mathlib.Decide.{ℕ_discrete}
 use Rattle.history.specs.Log.{State, Puts, Final}
-use Rattle.history.specs.Layout.{Home}
 
 -- ---- the abstract part: slot p was empty, and afterwards is empty or holds a log newer than all others
 

@@ -1,7 +1,7 @@
 -- Sealed sessions published, those that pass a test: one end, and the clock goes on by one. The invariant is kept.
 use Prim.Native.Nat.{ℕ, suc, ◌≤◌, ◌<◌}
 use mathlib.Core.Path.{◌≡◌, refl}
-use mathlib.Core.Logic.{inl, inr, ◌≢◌}
+use mathlib.Core.Logic.{inl, inr}
 use mathlib.Core.Bool.{Bool, true, false, cond, false≢true}
 use mathlib.Core.Option.{none}
 use native.Mathlib.Omega.{arith}

@@ -10,7 +10,7 @@ use lib.ListN.{get_or}
 use Rattle.layout.specs.Entries.{Write}
 use Rattle.history.specs.Log.{In, State, Occupied, Puts, Final}
 use Rattle.history.specs.Layout.{Home}
-use Rattle.history.specs.Desk.{Copy, spot, writes, idle, sealed, published, copies, Desk, upd, with_session}
+use Rattle.history.specs.Desk.{Copy, spot, writes, idle, published, copies, Desk, upd, with_session}
 use Rattle.layout.specs.Image.{place_of}
 use Rattle.history.specs.History.{History, record_of, view_at}
 use Rattle.history.proofs.Copies.{Word, Mem, Fresh, Apart, mem?, in_spot, in-word, word-in, upd_same, upd_other}

@@ -2,3 +2,4 @@ pub mod OpenLaws
 pub mod Lists
 pub mod RecoverLaws
 pub mod ToldLaws
+pub mod Clauses

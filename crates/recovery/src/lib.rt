@@ -1,4 +1,6 @@
 // Opening an image, and recovery on an image alone.
+#![tactic(auto)]
+
 mod opening;
 mod recovering;
 

@@ -1,5 +1,7 @@
 // Read and write: what a session sees of a record, and its own copies. Neither stores to the image. The module `seeing` is public for the
 // crate above.
+#![tactic(auto)]
+
 mod copies;
 mod reading;
 mod seeing;

@@ -3,7 +3,6 @@ use Rattle.layout.specs.Below.{lowest}
 use Rattle.layout.proofs.BelowLaws.{lowest-more, lowest-finds}
 use native.Mathlib.Omega.{arith}
 use mathlib.Core.Path.{◌≡◌, refl, sym}
-use Prim.Native.Nat.{◌≤◌, ◌-◌}
 use Rattle.snapshot.proofs.copies.own_place.Goals as goal
 use borrow.Author.Rules.{rules}
 

@@ -1,8 +1,6 @@
 use Rattle.desk.specs.Coherent.{place_has}
 use Rattle.layout.specs.Below.{lowest}
-use Rattle.layout.proofs.BelowLaws.{lowest-more, lowest-finds}
-use native.Mathlib.Omega.{arith}
-use mathlib.Core.Path.{◌≡◌, refl, sym}
+use mathlib.Core.Path.{◌≡◌}
 use Prim.Native.Nat.{◌≤◌, ◌-◌}
 use Rattle.snapshot.proofs.copies.own_place.Given as goal
 

@@ -2,9 +2,7 @@ use Rattle.snapshot.proofs.ReadLaws.{sight-by, read-refused, read-inactive, read
 use Rattle.desk.proofs.Facts.{census-coherent}
 use Rattle.desk.proofs.RecordEntered.{record_fault, RecordEntered, record-entered}
 use Rattle.snapshot.proofs.OwnPlace.{holder-small, holder-found}
-use Rattle.desk.specs.declared.state.Desk.{Desk}
-use Prim.Native.Nat.{ℕ, ◌<◌}
-use borrow.Author.Tests.{not-true, not-false}
+use Prim.Native.Nat.{◌<◌}
 use native.Mathlib.Omega.{arith}
 use mathlib.Core.Path.{◌≡◌, sym, ◌∙◌}
 use Rattle.snapshot.proofs.ToldLaws.{read-tells}
@@ -20,17 +18,8 @@ facts : (c : Else-fault-ne0) → RecordEntered c.args.image.now c.args.desk c.ar
 facts c = record-entered _ _ _ _ (passed c)
 
 -- the holder's entry is one of the sixteen
-holder : (c : After-marked_session-h) → c.marked_session-h.result < 16
-holder c =
-    let f = facts c.before.before.before.before.before.before.before in
-    rw c.marked_session-h.ensures (holder-small _ f.session.coherent _ f.small)
-
--- the desk and the record, seen from where the holder is known
-abbrev desk-at : After-marked_session-h → Desk
-desk-at c = c.args.desk
-
-abbrev rec-at : After-marked_session-h → ℕ
-rec-at c = c.args.rec
+holder : (c : After-marked_session-h) → RecordEntered c.args.image.now c.args.desk c.args.session c.args.rec → c.marked_session-h.result < 16
+holder c f = rw c.marked_session-h.ensures (holder-small _ f.session.coherent _ f.small)
 
 pub returns-then-fault-ne0 : goal.returns-then-fault-ne0
 returns-then-fault-ne0 c = reply-told (read-tells _ _ _ _ (c.gives.ensures ∙ sym (read-refused _ _ _ _ c.record_fault-fault.result (rw (c.census-active.ensures, census-coherent _) at c.record_fault-fault.ensures) c.if-fault-ne0.true)))
@@ -55,15 +44,15 @@ pub bounds-desk-k : goal.bounds-desk-k
 bounds-desk-k c = (facts (goal.at.bounds-desk-k c).Else-fault-ne0).small
 
 pub offset_bounds-desk-h : goal.offset_bounds-desk-h
-offset_bounds-desk-h c = let l : c.marked_session-h.result < 16 = holder c in omega arith
+offset_bounds-desk-h c = let l : c.marked_session-h.result < 16 = holder c (facts (goal.at.offset_bounds-desk-h c).Else-fault-ne0) in omega arith
 
 pub bounds-desk-h : goal.bounds-desk-h
-bounds-desk-h c = holder c
+bounds-desk-h c = holder c (facts (goal.at.bounds-desk-h c).Else-fault-ne0)
 
 pub seen-sight-requires : goal.seen-sight-requires
 seen-sight-requires c =
     let f = facts (goal.at.seen-sight-requires c).Else-fault-ne0 in
-    (f.small, holder-found (desk-at m) f.session.coherent (rec-at m) f.small _ c.marked_session-h.ensures)
+    (f.small, holder-found c.args.desk f.session.coherent c.args.rec f.small _ c.marked_session-h.ensures)
 
 pub returns : goal.returns
 returns c =
@@ -71,4 +60,4 @@ returns c =
     (read-tells _ _ _ _
     (c.gives-2.ensures
     ∙ sym (read-seen _ _ _ _ (passed (goal.at.returns c).Else-fault-ne0) (sym c.is_active.ensures ∙ c.if-not-is_active.false) (rw c.own_place-own.ensures at c.if-own-lt4.false) _
-    (sight-by _ (desk-at m) (rec-at m) _ _ _ _ c.seen-sight.ensures c.start_of_lem.ensures c.marked_session-h.ensures))))
+    (sight-by _ c.args.desk c.args.rec _ _ _ _ c.seen-sight.ensures c.start_of.ensures c.marked_session-h.ensures))))

@@ -4,7 +4,6 @@ use Rattle.snapshot.proofs.WriteLaws.{write-refused, write-inactive, write-own, 
 use Rattle.desk.proofs.Facts.{census-coherent}
 use Rattle.desk.proofs.RecordEntered.{record_fault, RecordEntered, record-entered}
 use Rattle.desk.proofs.DeskEntered.{markable, leavable}
-use borrow.Author.Tests.{not-true, not-false}
 use native.Mathlib.Omega.{arith}
 use mathlib.Core.Path.{◌≡◌, sym, ◌∙◌}
 use Rattle.snapshot.proofs.ToldLaws.{write-tells}
