@@ -6,7 +6,7 @@ ghost use Rattle.codec.specs.Steps.{body_of, step_of, records_of_byte, step_word
 use crate::step::Step;
 
 // What stands at the start of some bytes.
-#[derive(Drop)]
+#[derive(Clone, Copy)]
 pub enum Found {
     Whole(Step),
     Bad,
@@ -108,6 +108,7 @@ fn no_step(found: Found) -> Decoded
 }
 
 // The step that starts the bytes.
+#[tactic(auto, using(crate::proofs::Cases::cases))]
 pub fn decode(s: &[u8]) -> Decoded
     ensures value { result ≡ decode_of s.now }
     ensures size_in_bounds { result.size ≤ length s.now }

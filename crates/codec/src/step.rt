@@ -1,5 +1,5 @@
 // A step of the stream; the words of a write stand beside it.
-#[derive(Drop)]
+#[derive(Clone, Copy)]
 pub enum Step {
     Lay(u64, u64),
     Begin(u64),

@@ -1,3 +1,4 @@
+pub mod Clauses
 pub mod PutLaws
 pub mod Digits
 pub mod Puts

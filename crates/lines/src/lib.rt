@@ -1,5 +1,7 @@
 // The lines that the program prints, put into a lent buffer. Everything here asks for room: it is for the programs above, which have shown
 // that there is room before they print a line.
+#![tactic(auto)]
+
 mod line;
 mod outcome;
 mod phrase;

@@ -1,5 +1,5 @@
 // The result of a step. Its line shows the words of a read too, and of a refusal the number alone, not the value that goes with it.
-#[derive(Drop)]
+#[derive(Clone, Copy)]
 pub enum Outcome {
     Refused(u64, u64),
     Ok,

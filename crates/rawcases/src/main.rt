@@ -12,18 +12,19 @@ mod store_calls;
 
 use case::run;
 use input::unpack;
+use std::io::{Print, Stdout};
 
 // Writes the line of a case: its number and its fields, parted by one space. The answer is whether all was taken. The buffer is all line
 // ends at first, so that one stands behind the last field.
-fn write_line(number: u64, fields: [u64; 11]) -> bool {
+fn write_line(stdout: Stdout, number: u64, fields: [u64; 11]) -> bool {
     let mut out: [u8; 252] = [10; 252];
     let a = lines::put_number(&mut out, 0, number);
     let b = lines::put_numbers(&mut out, a, &fields);
-    io::write_all(1, &out[0..b + 1])
+    stdout.write_all(&out[0..b + 1]).is_ok()
 }
 
 // The input held is input[at..have]. A turn takes the case that starts it, or reads where it holds no whole one.
-fn main() {
+fn main(rt: HostRuntime) {
     let mut input = io::large_buffer();
     let mut at: usize = 0;
     let mut have: usize = 0;
@@ -34,14 +35,14 @@ fn main() {
         let size = c.size;
         let words = c.words;
         if size == 0 {
-            let came = feed::refill(&mut input, at, have);
+            let came = feed::refill(rt.stdin(), &mut input, at, have);
             if came == 0 {
                 return;
             }
             have = have - at + came;
             at = 0;
         } else {
-            if !write_line(number, run(words)) {
+            if !write_line(rt.stdout(), number, run(words)) {
                 return;
             }
             at += size;

@@ -1,6 +1,6 @@
 // The program: a walk through the step stream on standard input, its lines on standard output.
 
-fn main() {
+fn main(rt: HostRuntime) {
     let mut input = io::large_buffer();
     let mut output = io::large_buffer();
     let mut image: [u64; 1732] = [0; 1732];
@@ -9,6 +9,7 @@ fn main() {
     // zeros are no image: the desk of a refused opening
     let none = store::open(&mut image, &mut trace);
     walk::run(
+        &rt,
         &mut input,
         &mut image,
         &mut before,

@@ -4,6 +4,7 @@ ghost use Rattle.std.specs.Prelude.{◌+◌, ◌≤◌, ◌<◌, length};
 
 use crate::filling::{Table, fill};
 use report::{CarrierLine, ReportAnswer, ReportReply};
+use std::io::{Print, Stdout};
 
 fn wide(byte: u8) -> usize
     ensures { result < 256 }
@@ -93,31 +94,31 @@ fn filled(bytes: &[u8], room: usize) -> Table
 }
 
 // Writes a case's number and fields, parted by one space. The buffer is all line ends at first, so that one stands behind the last field.
-fn write_line(number: u64, fields: [u64; 16]) -> bool {
+fn write_line(stdout: Stdout, number: u64, fields: [u64; 16]) -> bool {
     let mut out: [u8; 357] = [10; 357];
     let a = lines::put_number(&mut out, 0, number);
     let b = lines::put_numbers(&mut out, a, &fields);
-    io::write_all(1, &out[0..b + 1])
+    stdout.write_all(&out[0..b + 1]).is_ok()
 }
 
 // Writes what the program prints of the bytes.
-fn write_sheet(bytes: &[u8]) -> bool {
+fn write_sheet(stdout: Stdout, bytes: &[u8]) -> bool {
     let mut words: [u64; 1732] = [0; 1732];
     let mut out: [u8; 320] = [0; 320];
     let n = sheet::put_sheet(&mut out, &mut words, bytes);
-    io::write_all(1, &out[..n])
+    stdout.write_all(&out[..n]).is_ok()
 }
 
 // Makes the call of a case and writes its lines; the answer is whether all was taken.
-pub fn show(number: u64, given: &[u8]) -> bool
+pub fn show(stdout: Stdout, number: u64, given: &[u8]) -> bool
     requires { (5 ≤ length given.now) × (length given.now ≤ 14412) }
 {
     let room = room_of(given[0]);
     let t = filled(&given[5..], room);
     let reply = t.reply;
     let ls = t.lines;
-    if !write_line(number, fields(room, reply, ls)) {
+    if !write_line(stdout, number, fields(room, reply, ls)) {
         return false;
     }
-    write_sheet(&given[5..])
+    write_sheet(stdout, &given[5..])
 }

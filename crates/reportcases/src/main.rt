@@ -6,7 +6,7 @@ mod filling;
 use case::{case_size, show};
 
 // The input held is input[at..have]. A turn takes the case that starts it, or reads where it holds no whole one.
-fn main() {
+fn main(rt: HostRuntime) {
     let mut input = io::large_buffer();
     let mut at: usize = 0;
     let mut have: usize = 0;
@@ -15,7 +15,7 @@ fn main() {
     while 0 < turns {
         let size = case_size(&input, at, have);
         if size < 5 {
-            let came = feed::refill(&mut input, at, have);
+            let came = feed::refill(rt.stdin(), &mut input, at, have);
             if came == 0 {
                 return;
             }
@@ -23,7 +23,7 @@ fn main() {
             at = 0;
         } else {
             let end = at + size;
-            if !show(number, &input[at..end]) {
+            if !show(rt.stdout(), number, &input[at..end]) {
                 return;
             }
             at = end;

@@ -2,6 +2,7 @@
 // bytes, as four bytes, lowest first.
 ghost use Rattle.std.specs.Prelude.{◌≡◌, ◌<◌, ◌≤◌, length};
 
+use std::io::Stdin;
 use store::Desk;
 
 // The next stream, of `size` bytes; with none left, `ended`.
@@ -36,18 +37,18 @@ fn no_stream() -> Stream
 }
 
 // Reads the next stream to the start of the buffer. One that is longer than the buffer, or cut short, is the end.
-fn next_stream(input: &mut [u8]) -> Stream
+fn next_stream(stdin: Stdin, input: &mut [u8]) -> Stream
     ensures { result.size ≤ length input.old }
 {
     let mut head: [u8; 4] = [0; 4];
-    if io::read_full(0, &mut head) < 4 {
+    if feed::read_full(stdin, &mut head) < 4 {
         return no_stream();
     }
     let size = number(head);
     if input.len() < size {
         return no_stream();
     }
-    if io::read_full(0, &mut input[..size]) < size {
+    if feed::read_full(stdin, &mut input[..size]) < size {
         return no_stream();
     }
     Stream {
@@ -57,6 +58,7 @@ fn next_stream(input: &mut [u8]) -> Stream
 }
 
 fn walk_all(
+    rt: &HostRuntime,
     input: &mut [u8],
     image: &mut [u64],
     before: &mut [u64],
@@ -69,11 +71,12 @@ fn walk_all(
 {
     let mut left: u64 = 18446744073709551615;
     while 0 < left {
-        let stream = next_stream(input);
+        let stream = next_stream(rt.stdin(), input);
         if stream.ended {
             return;
         }
         walk::run(
+            rt,
             input,
             image,
             before,
@@ -87,7 +90,7 @@ fn walk_all(
     }
 }
 
-fn main() {
+fn main(rt: HostRuntime) {
     let mut input: [u8; 131072] = [0; 131072];
     let mut output = io::large_buffer();
     let mut image: [u64; 1732] = [0; 1732];
@@ -96,6 +99,7 @@ fn main() {
     // zeros are no image: the desk of a refused opening
     let none = store::open(&mut image, &mut trace);
     walk_all(
+        &rt,
         &mut input,
         &mut image,
         &mut before,

@@ -1,4 +1,6 @@
 // A step applied to a store, and a cut in it.
+#![tactic(auto)]
+
 mod applying;
 mod cut;
 

@@ -1,5 +1,7 @@
 // The record store: every call that users make, handed on from the crate that has it. Begin, publish, `publish_group` and abandon are
 // methods of `Desk`.
+#![tactic(auto)]
+
 pub use commit::{
     FinishAnswer, FinishReply, ReclaimAnswer, ReclaimReply, SettleAnswer, SettleReply, finish,
     reclaim, settle,

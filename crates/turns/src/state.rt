@@ -7,7 +7,7 @@ ghost use Rattle.turns.specs.State.{first_state, counted_of, written_of, filled_
 // `cutting`: of the next step that stores, `cut` entries arrive. `lost`: the desk is lost, and recovery is to come. `closed`: the image is
 // to be opened. `ended`: no more input comes. `over`: no more steps are taken. `failed`: a write of the lines failed. `stopped`: the last
 // turn is made.
-#[derive(Drop)]
+#[derive(Clone, Copy)]
 pub struct State {
     pub at: usize,
     pub have: usize,

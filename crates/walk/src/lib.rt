@@ -18,6 +18,7 @@ const TURNS: u64 = 18446744073709551614;
 // Walks through a stream: its first `have` bytes are in the input buffer, and unless it has ended, more come from standard input. The lines
 // go to standard output. The first desk may be any: the first step lays and opens, or is bad.
 pub fn run(
+    rt: &HostRuntime,
     input: &mut [u8],
     image: &mut [u64],
     before: &mut [u64],
@@ -37,7 +38,7 @@ pub fn run(
     let mut desk = first;
     let mut turns = TURNS;
     while (0 < turns) & !s.stopped {
-        let t = take_turn(input, image, before, trace, output, desk, s);
+        let t = take_turn(rt, input, image, before, trace, output, desk, s);
         desk = t.desk;
         s = t.state;
         turns -= 1;

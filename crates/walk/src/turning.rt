@@ -25,6 +25,7 @@ fn gives(desk: Desk, state: State) -> Turned
 
 // A turn that leaves the desk as it is.
 fn other_turn(
+    rt: &HostRuntime,
     input: &mut [u8],
     image: &mut [u64],
     trace: &mut [u64],
@@ -42,7 +43,7 @@ fn other_turn(
 {
     match turn {
         Turn::Fill => {
-            let came = feed::refill(input, s.at, s.have);
+            let came = feed::refill(rt.stdin(), input, s.at, s.have);
             filled(s, came)
         }
         Turn::Recover => {
@@ -52,8 +53,8 @@ fn other_turn(
         Turn::Lay(n, m) => lay_out(image, output, s, n, m),
         Turn::Bad => bad(output, s),
         Turn::End => stopped(s),
-        Turn::Flush => flush(output, s),
-        Turn::Fail => fail(output, s),
+        Turn::Flush => flush(rt.stdout(), output, s),
+        Turn::Fail => fail(rt.stderr(), output, s),
         Turn::Open => s,
         Turn::Call(_) => s,
     }
@@ -61,6 +62,7 @@ fn other_turn(
 
 // One turn: the lines are written out where there is little room for one more; else what comes next.
 pub fn take_turn(
+    rt: &HostRuntime,
     input: &mut [u8],
     image: &mut [u64],
     before: &mut [u64],
@@ -77,7 +79,7 @@ pub fn take_turn(
         (scene_of input.new image.new output.new result.desk result.state) }
 {
     if output.len() - s.put < 256 {
-        return gives(desk, flush(output, s));
+        return gives(desk, flush(rt.stdout(), output, s));
     }
     let t = next_turn(input, s);
     let turn = t.turn;
@@ -99,7 +101,7 @@ pub fn take_turn(
             gives(d, tell(output, next, step, outcome, shown, a.entries))
         }
         _ => {
-            let after = other_turn(input, image, trace, output, next, turn);
+            let after = other_turn(rt, input, image, trace, output, next, turn);
             gives(desk, after)
         }
     }
