@@ -72,7 +72,10 @@ module _ (img : List ℕ) (len : ℕ) (o : (store_rules.opens img len).told ≡ 
   reads-right (during calls x k sel) earlier later c e =
       read_right _ _ (opened store_rules img len) start earlier later c _
       (λ σ u.
-      cut-view _ _ x _ _ (run store_rules calls (opened store_rules img len)).ledger.history σ u
+      cut-view (records_of img) (run store_rules calls (opened store_rules img len)).ledger.desk x
+      (reply store_rules (run store_rules calls (opened store_rules img len)) x).told
+      (cut_image store_rules img len (during calls x k sel))
+      (run store_rules calls (opened store_rules img len)).ledger.history σ u
       ∙ ap (λ (x : List Call). view_at (run store_rules x (opened store_rules img len)).ledger.history σ u) e)
 
 pub demand3 : Demand3 store_rules

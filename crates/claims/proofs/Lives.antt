@@ -76,7 +76,10 @@ module _ (R : Rules) where
   history-opening : (img : List ℕ) (len : ℕ) (cut : Cut) → (cut_history R img len cut).opening ≡ home_words img
   history-opening img len (opening k sel) = refl
   history-opening img len (during calls c k sel) =
-      cut-opening _ _ c _ _ (run R calls (opened R img len)).ledger.history ∙ run-opening calls (opened R img len)
+      cut-opening (records_of img) (run R calls (opened R img len)).ledger.desk c
+      (reply R (run R calls (opened R img len)) c).told (cut_image R img len (during calls c k sel))
+      (run R calls (opened R img len)).ledger.history
+      ∙ run-opening calls (opened R img len)
 
   -- ---- lives
 

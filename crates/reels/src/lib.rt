@@ -1,5 +1,7 @@
 // Reel records (document 02, Req 02 and 07): what the four words of a record mean to the archives. The library stands above the store and
 // relies on its contracts alone.
+#![tactic(auto)]
+
 mod packing;
 mod reading;
 mod reel;

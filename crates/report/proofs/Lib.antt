@@ -5,6 +5,3 @@ pub mod Turned
 pub mod Table
 pub mod Laws
 pub mod InDigits
-pub mod Again
-pub mod LentArray
-pub mod Walk

@@ -1,5 +1,7 @@
 // The yearly playing-time report (document 02, Req 10): a lent table of carrier lines is filled from a clean image. The library stands above
 // the reel library, which says what is good to read.
+#![tactic(auto)]
+
 mod checking;
 mod counting;
 mod line;
