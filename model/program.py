@@ -1,4 +1,4 @@
-"""Runs target/bin/reelwalk itself and compares it with the model, on fixed streams.
+"""Runs crates/reelwalk/out/reelwalk itself and compares it with the model, on fixed streams.
 
     python3 model/program.py       all of them; one line, or what differs
 

@@ -1,4 +1,4 @@
-"""Runs target/bin/reelreport itself and compares it with the model.
+"""Runs crates/reelreport/out/reelreport itself and compares it with the model.
 
     python3 model/reports.py                  the images of the stored cases, and 300 fresh ones of a new seed
     python3 model/reports.py COUNT SEED       so many fresh ones of this seed
@@ -31,7 +31,7 @@ from edges import closed, failing, limited  # noqa: E402
 from raw import TOP  # noqa: E402
 from runs import BUFFER, Result, content, until, waits  # noqa: E402
 
-PROGRAM = os.environ.get("REELREPORT") or os.path.join(HERE, "..", "target", "bin", "reelreport")
+PROGRAM = os.environ.get("REELREPORT") or os.path.join(HERE, "..", "crates", "reelreport", "out", "reelreport")
 COUNT = 300
 SAYS = b"reelreport: the report could not be written\n"
 LIMIT = [20]  # seconds for a run; once one has not ended the check has failed, and further ones get less time

@@ -1,4 +1,4 @@
-"""Ways to run target/bin/reelwalk, or the program that the environment variable REELWALK names.
+"""Ways to run crates/reelwalk/out/reelwalk, or the program that the environment variable REELWALK names.
 
 Every run is watched: it ends within a time limit, its exit status is known, and so is what it says on standard error.
 """
@@ -18,7 +18,7 @@ sys.path.insert(0, HERE)
 
 import reelwalk  # noqa: E402
 
-PROGRAM = os.environ.get("REELWALK") or os.path.join(HERE, "..", "target", "bin", "reelwalk")
+PROGRAM = os.environ.get("REELWALK") or os.path.join(HERE, "..", "crates", "reelwalk", "out", "reelwalk")
 BUFFER = 65536    # bytes of the program's input buffer, and of its output buffer
 WHOLE_RUN = 120   # seconds for a run from its start to its end
 PATIENCE = [10]   # seconds for one answer; once one has not come the check has failed, and further ones get less time

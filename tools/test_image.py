@@ -496,7 +496,7 @@ def test_documents():
     with open(os.path.join(stored, "stdin"), "rb") as file:
         same(file.read(), data, "the image that reelreport is run on")
     with open(os.path.join(stored, "stdout"), "rb") as file:
-        lines = b"$ cat docs/shelf.txt\n" + text + b"$ tools/image < docs/shelf.txt | target/bin/reelreport\n" + file.read()
+        lines = b"$ cat docs/shelf.txt\n" + text + b"$ tools/image < docs/shelf.txt | crates/reelreport/out/reelreport\n" + file.read()
     with open(os.path.join(HERE, "..", "README.md"), "rb") as file:
         same(b"".join(b"    " + line + b"\n" for line in lines.splitlines()) in file.read(), True, "the README's session")
     lines = [b" ".join(line.split(b"#")[0].split()) for line in text.split(b"\n")]
