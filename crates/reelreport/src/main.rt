@@ -1,4 +1,5 @@
 // The program: an image as bytes on standard input, its yearly playing-time report on standard output.
+#![tactic(auto)]
 
 use std::io::Print;
 
@@ -10,6 +11,8 @@ fn main(rt: HostRuntime) {
     let have = feed::read_full(rt.stdin(), &mut input);
     let n = sheet::put_sheet(&mut output, &mut image, &input[..have]);
     if rt.stdout().write_all(&output[..n]).is_err() {
-        let _ = rt.stderr().write_all(b"reelreport: the report could not be written\n");
+        let _ = rt
+            .stderr()
+            .write_all(b"reelreport: the report could not be written\n");
     }
 }

@@ -1,14 +1,11 @@
 -- One turn of a walk, by which turn it is.
 use Prim.Native.Nat.{ℕ, suc, ◌+◌, ◌-◌, ◌<◌}
 use mathlib.Core.Bool.{Bool, true, false, not, ◌&&◌, and-true, and-false, false≢true}
-use mathlib.Core.Logic.{◌⊎◌, inl, inr}
 use native.Mathlib.Omega.{arith}
 use lib.Dec.{ltb}
-use borrow.Author.Tests.{ltb-true, ltb-false}
-use mathlib.Core.List.{List, [], ◌∷◌}
+use borrow.Author.Tests.{ltb-true}
+use mathlib.Core.List.{List}
 use mathlib.Core.Path.{◌≡◌, refl, sym, ◌∙◌}
-use types.Run.{OneOf, miss}
-use denote.Enum.Declared.{tag_of}
 use Rattle.layout.specs.Entries.{made}
 use Rattle.desk.specs.declared.state.Desk.{Desk}
 use Rattle.recovery.specs.Open.{open_entries, open_reply}
@@ -16,30 +13,11 @@ use Rattle.codec.specs.declared.step.Step.{Step}
 use Rattle.turns.specs.State.{opened_of}
 use Rattle.turns.specs.Output.{Flushed}
 use Rattle.walk.specs.Turn.{aside_of, turn_of}
-use Rattle.walk.specs.Walk.{Heard, Work, image_of, in_state, with_image, aside, called, work_after, desk_turned, Fed, OtherTurn, Scene, full_b, next_of, OneTurn, Walked, most_turns, WholeWalk}
+use Rattle.walk.specs.Walk.{Heard, Work, image_of, in_state, with_image, called, work_after, desk_turned, Fed, Scene, full_b, next_of, OneTurn, Walked, most_turns}
 use Rattle.turns.specs.declared.state.State.{State}
-use Rattle.walk.specs.declared.turn.Turn.{Turn}
-use Rattle.walk.specs.declared.turn.Turn.TheVariants.{Open, Recover, Fill, Call, Lay, Bad, End, Flush, Fail}
+use Rattle.walk.specs.declared.turn.Turn.TheVariants.{Open, Call, Flush}
 use Rattle.walk.specs.declared.turn.Taken.{Taken}
 use Rattle.walk.proofs.WalkLaws.{nothing_heard, heard_written}
-use Rattle.walk.specs.contracts.turn.Turn.{the_type}
-
--- the turns that leave the desk as it is
-abbrev pub others : List ℕ
-others = 1 ∷ 2 ∷ 4 ∷ 5 ∷ 6 ∷ 7 ∷ 8 ∷ []
-
--- the work and the desk after one of them
-other-work : (len : ℕ) (h : Heard) (turn : Turn) (words : List ℕ) (d : Desk) (w : Work) → OneOf others (tag_of the_type turn)
-    → (work_after len h turn words d w ≡ aside len h turn w) × (desk_turned len turn words d w ≡ d)
-other-work len h Open words d w k = absurd (miss others 0 tt k)
-other-work len h Recover words d w k = (refl, refl)
-other-work len h Fill words d w k = (refl, refl)
-other-work len h (Call step) words d w k = absurd (miss others 3 tt k)
-other-work len h (Lay n m) words d w k = (refl, refl)
-other-work len h Bad words d w k = (refl, refl)
-other-work len h End words d w k = (refl, refl)
-other-work len h Flush words d w k = (refl, refl)
-other-work len h Fail words d w k = (refl, refl)
 
 module _ (len : ℕ) (w : Scene) where
   -- a turn, by what it is
@@ -74,14 +52,6 @@ module _ (len : ℕ) (w : Scene) where
         → OneTurn len w (record { input = w.input; work = v; desk = d })
     called-turn step o e z = acted q (nothing_heard w.input) (rw o refl) (rw (o, e, z))
 
-    -- a turn that leaves the desk as it is
-    pub other-turn : {input : List ℕ} {v : Work} → OneOf others (tag_of the_type t.turn)
-        → OtherTurn len t.turn w.input (in_state w.work t.state) input v
-        → OneTurn len w (record { input = input; work = v; desk = w.desk })
-    other-turn k o =
-        let p = other-work len o.0 t.turn t.words w.desk (in_state w.work t.state) k in
-        acted q o.0 o.1 (rw (p.0, p.1, o.2, o.3))
-
 -- some turns were made from u to w, and `left` of the most are left
 pub record Went (len : ℕ) (u w : Scene) (left : ℕ) : Type 0 where
   pub made : ℕ
@@ -102,10 +72,3 @@ went_on {v = v} e l g o = record { made = suc g.made; walked = (v, g.walked, l.1
 pub goes_on : (left : ℕ) (stopped : Bool) → ltb 0 left && not stopped ≡ true → (0 < left) × (stopped ≡ false)
 goes_on left true e = absurd (false≢true (sym (and-false (ltb 0 left)) ∙ e))
 goes_on left false e = (ltb-true 0 left (sym (and-true (ltb 0 left)) ∙ e), refl)
-
-pub went-whole : {len : ℕ} {u w : Scene} {left : ℕ} → ltb 0 left && not w.work.state.stopped ≡ false → Went len u w left → WholeWalk len u w
-went-whole {w = w} {left = left} e g = (g.made, g.walked, over w.work.state.stopped refl e)
-  where
-    over : (b : Bool) → w.work.state.stopped ≡ b → ltb 0 left && not b ≡ false → (w.work.state.stopped ≡ true) ⊎ (g.made ≡ most_turns)
-    over true q z = inl q
-    over false q z = inr (omega (arith, ltb-false 0 left (sym (and-true (ltb 0 left)) ∙ z), g.count))

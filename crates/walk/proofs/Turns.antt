@@ -22,7 +22,6 @@ use Rattle.walk.specs.declared.turn.Turn.TheVariants.{Call, Lay as LayOut, Bad, 
 use Rattle.walk.specs.declared.turn.Taken.{Taken}
 use Rattle.walk.specs.Turn.{call_turn, step_turn, found_turn, decoded_turn, lacks_b, holds_b, aside_of, taken_of}
 use Rattle.walk.specs.Bounds.{Within, Starved, Comes}
-use Rattle.turns.specs.Bounds.{Follows}
 
 -- a buffer's length, after it was lent
 pub kept : {a b c : ℕ} → a ≡ c → a ≡ b → b ≡ c
@@ -37,28 +36,6 @@ renamed w p q r =
       held = omega (arith, w.held, p);
       written = omega (arith, w.written, q);
       sized = omega (arith, w.sized, r);
-    }
-
--- what follows the turn that comes from a state within stays within
-pub turned : {s u : State} {t : Taken} {i o m out : ℕ} → Within s i o m → Comes s t → Follows t.state u out t.state.size → out ≤ o → Within u i o m
-turned w c f le =
-    record {
-      longest = w.longest;
-      from = omega (arith, c.from, f.from, f.held);
-      held = omega (arith, w.held, c.held, f.held);
-      written = omega (arith, f.written, le);
-      sized = omega (arith, w.sized, c.sized, f.sized);
-    }
-
--- and so does what follows the state itself
-pub follows-within : {s r : State} {i o m out : ℕ} → Within s i o m → Follows s r out s.size → out ≤ o → Within r i o m
-follows-within w f le =
-    record {
-      longest = w.longest;
-      from = omega (arith, w.from, f.from, f.held);
-      held = omega (arith, w.held, f.held);
-      written = omega (arith, f.written, le);
-      sized = omega (arith, w.sized, f.sized);
     }
 
 -- a turn that takes no step leaves the state as it is
@@ -91,9 +68,6 @@ found-starved (Whole step) laid held = step-turn-is (λ t. Starved t held) tt (�
 found-starved Unknown laid held = tt
 found-starved Short laid held = tt
 found-starved Nothing laid held = tt
-
-pub taken-starved : {turn : Turn} (found : Found) (laid : Bool) (held : ℕ) → turn ≡ found_turn found laid → Starved turn held
-taken-starved found laid held e = rw e (found-starved found laid held)
 
 -- a body has 34 bytes at most
 body-most : (kind : ℕ) → body_of kind ≤ 34

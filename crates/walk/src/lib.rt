@@ -1,6 +1,8 @@
 // A walk through a step stream. `run` is public for the programs above: it asks for an input buffer for the longest step, in which the bytes
 // said to be held fit, for memory of the largest image and a `before` at least as long, for a trace with room for any list, and for an output
 // with room for a line.
+#![tactic(auto)]
+
 ghost use Rattle.std.specs.Prelude.{◌≤◌, length};
 ghost use Rattle.turns.specs.State.{first_state};
 ghost use Rattle.walk.specs.Walk.{scene_of, Leaves};
