@@ -1,4 +1,5 @@
 // A host in small: one record, one session, from lay to reclaim. README.md says what a host does.
+#![tactic(auto)]
 
 // The host's own: it makes the first `entries` pairs of the trace durable, in order. Here nothing is behind the image.
 fn carry_out(trace: &[u64], entries: u64) {}
