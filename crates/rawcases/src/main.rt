@@ -1,5 +1,7 @@
 // Reads packed raw cases from standard input, makes the call of each and writes a line of what it answered and left. `model/raw.py` has the
 // formats.
+#![tactic(auto)]
+
 mod answered;
 mod calls;
 mod case;

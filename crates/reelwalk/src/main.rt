@@ -1,4 +1,5 @@
 // The program: a walk through the step stream on standard input, its lines on standard output.
+#![tactic(auto)]
 
 fn main(rt: HostRuntime) {
     let mut input = io::large_buffer();

@@ -1,5 +1,7 @@
 // Walks through stored streams, one after the other, as `reelwalk` walks through one. Standard input has each stream behind its length in
 // bytes, as four bytes, lowest first.
+#![tactic(auto)]
+
 ghost use Rattle.std.specs.Prelude.{◌≡◌, ◌<◌, ◌≤◌, length};
 
 use std::io::Stdin;
