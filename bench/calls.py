@@ -4,14 +4,15 @@
     bench/calls.py
 
 bench/calls has the program that makes the calls, as a crate of its own that the gate does not prove. Its files end in
-.txt, since rt refuses a repository with Rattle files that no listed crate has. Here it becomes the one crate of a small
-repository below target/bench, over the libraries of this one, and rt check proves and builds it there.
+.txt, since rt refuses a repository with Rattle files that no listed crate has. Here it becomes a crate of a small repository
+in the system's folder for temporary files, beside copies of the libraries that it uses, and rt run proves and builds it there.
 """
 
 import os
 import shutil
 import subprocess
 import sys
+import tempfile
 
 HERE = os.path.dirname(os.path.abspath(__file__))
 os.chdir(os.path.join(HERE, ".."))
@@ -19,8 +20,8 @@ sys.path.insert(0, HERE)
 
 import instructions  # noqa: E402
 
-PLACE = "target/bench/calls"
-PROGRAM = PLACE + "/target/bin/calls"
+PLACE = os.path.join(tempfile.gettempdir(), "jivandu-calls")
+PROGRAM = PLACE + "/crates/calls/out/calls"
 FEW, MANY = 2, 12  # hundreds of calls: one run is taken off the other
 # A title, then bench/calls' number of the call, the session and how many are active: inputs, so that the compiler does
 # not know them.
@@ -47,25 +48,24 @@ CALLS = [
 
 
 def build():
-    """Proves and builds the program in a repository of its own, over the libraries that rt has proved here."""
-    subprocess.run(["rt", "check", "listening"], stdout=subprocess.DEVNULL, check=True)
+    """Proves and builds the program in a repository of its own, over copies of the libraries."""
     shutil.rmtree(PLACE, ignore_errors=True)
-    with open("crates.txt") as lists:
-        over = next(line.split() for line in lists if line.startswith("listening:"))[1:]
+    with open("crates.txt") as file:
+        lists = {line.split(":")[0]: line for line in file if ":" in line}
+    over = ["listening", "feed"] + lists["listening"].split()[1:]
+    for library in over:
+        shutil.copytree("crates/" + library, PLACE + "/crates/" + library, ignore=shutil.ignore_patterns("out", "must-fail"))
     for folder, _, files in os.walk("bench/calls"):
         to = folder.replace("bench/calls", PLACE + "/crates/calls", 1)
         os.makedirs(to)
         for name in files:
             shutil.copy(os.path.join(folder, name), os.path.join(to, name.removesuffix(".txt")))
-    for library in ["listening"] + over:
-        os.symlink(os.path.abspath("crates/" + library), "%s/crates/%s" % (PLACE, library))
-    os.mkdir(PLACE + "/target")
-    os.symlink(os.path.abspath("target/rlib"), PLACE + "/target/rlib")
-    with open(PLACE + "/crates.txt", "w") as lists:
-        lists.write("calls: %s\n" % " ".join(["listening"] + over + ["io", "libc"]))
-    done = subprocess.run(["rt", "check", "calls"], cwd=PLACE, stdout=subprocess.PIPE, text=True)
-    if done.returncode:
-        sys.exit(done.stdout + "bench/calls is not proved")
+    with open(PLACE + "/crates.txt", "w") as file:
+        file.writelines([lists[library] for library in over] + ["calls: %s\n" % " ".join(over)])
+    done = subprocess.run(["rt", "run"], cwd=PLACE + "/crates/calls", stdin=subprocess.DEVNULL, stdout=subprocess.PIPE,
+                          stderr=subprocess.PIPE, text=True)
+    if not os.path.exists(PROGRAM):
+        sys.exit(done.stderr + "bench/calls is not proved")
 
 
 def run(call, session, active, hundreds):
