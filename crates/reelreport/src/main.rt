@@ -1,6 +1,5 @@
 // The program: an image as bytes on standard input, its yearly playing-time report on standard output.
-
-use std::io::Print;
+#![tactic(auto)]
 
 fn main(rt: HostRuntime) {
     // a byte more than the largest image has: of a longer input no more need be read
