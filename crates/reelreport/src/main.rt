@@ -9,6 +9,8 @@ fn main(rt: HostRuntime) {
     let have = feed::read_full(rt.stdin(), &mut input);
     let n = sheet::put_sheet(&mut output, &mut image, &input[..have]);
     if rt.stdout().write_all(&output[..n]).is_err() {
-        let _ = rt.stderr().write_all(b"reelreport: the report could not be written\n");
+        let _ = rt
+            .stderr()
+            .write_all(b"reelreport: the report could not be written\n");
     }
 }

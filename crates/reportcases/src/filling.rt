@@ -5,7 +5,7 @@ ghost use Rattle.report.specs.Report.{reported, report_reply};
 use report::{CarrierLine, ReportReply};
 
 // What the report answers, and the five lines afterwards.
-#[derive(Drop)]
+#[derive(Clone, Copy)]
 pub struct Table {
     pub reply: ReportReply,
     pub lines: [CarrierLine; 5],

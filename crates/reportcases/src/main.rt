@@ -1,5 +1,7 @@
 // Reads stored cases of the report from standard input. For each it lends the report a table and writes a line of what came back; behind it
 // stands what the program prints of the case's bytes. `model/rawreport.py` has the formats.
+#![tactic(auto)]
+
 mod case;
 mod filling;
 

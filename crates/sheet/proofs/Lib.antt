@@ -3,3 +3,4 @@ pub mod Texts
 pub mod Front
 pub mod Laws
 pub mod InDigits
+pub mod Clauses
