@@ -14,7 +14,7 @@ mod store_calls;
 
 use case::run;
 use input::unpack;
-use std::io::{Print, Stdout};
+use std::io::Stdout;
 
 // Writes the line of a case: its number and its fields, parted by one space. The answer is whether all was taken. The buffer is all line
 // ends at first, so that one stands behind the last field.

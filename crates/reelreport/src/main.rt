@@ -1,8 +1,6 @@
 // The program: an image as bytes on standard input, its yearly playing-time report on standard output.
 #![tactic(auto)]
 
-use std::io::Print;
-
 fn main(rt: HostRuntime) {
     // a byte more than the largest image has: of a longer input no more need be read
     let mut input: [u8; 13857] = [0; 13857];

@@ -4,7 +4,7 @@ ghost use Rattle.std.specs.Prelude.{◌+◌, ◌≤◌, ◌<◌, length};
 
 use crate::filling::{Table, fill};
 use report::{CarrierLine, ReportAnswer, ReportReply};
-use std::io::{Print, Stdout};
+use std::io::Stdout;
 
 fn wide(byte: u8) -> usize
     ensures { result < 256 }

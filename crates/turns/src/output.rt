@@ -6,7 +6,7 @@ ghost use Rattle.turns.specs.Output.{Flushed, lost_text};
 ghost use Rattle.turns.specs.State.{stopped_of};
 
 use crate::state::{State, stopped, written};
-use std::io::{Print, Stderr, Stdout};
+use std::io::{Stderr, Stdout};
 
 // Writes the lines held to standard output.
 pub fn flush(stdout: Stdout, output: &[u8], s: State) -> State
