@@ -15,7 +15,7 @@ pub enum Found {
 }
 
 // What was found, how many bytes it takes (0 if it is no whole step), and the words of a write (zeros if it is none).
-#[derive(Drop)]
+#[derive(Clone, Copy)]
 pub struct Decoded {
     pub found: Found,
     pub size: usize,

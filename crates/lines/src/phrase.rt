@@ -6,7 +6,7 @@ use crate::outcome::Outcome;
 use codec::Step;
 
 // A word, the first `len` bytes, and the first `count` of two numbers.
-#[derive(Drop)]
+#[derive(Clone, Copy)]
 pub struct Phrase {
     pub bytes: [u8; 8],
     pub len: usize,

@@ -3,7 +3,7 @@
 use store::Desk;
 
 // Zeros where the call has no value, words or entries; the desk that was given where it leaves none.
-#[derive(Drop)]
+#[derive(Clone, Copy)]
 pub struct Answered {
     pub answer: u64,
     pub value: u64,

@@ -6,7 +6,7 @@ use store::Desk;
 
 // A call by its number, and its arguments but the image, the desk and the trace: N and M of a lay; session and record; the four words of a
 // record, or the numbers of a reel. A group's set stands in the place of the session, a shelf number in that of the first word.
-#[derive(Drop)]
+#[derive(Clone, Copy)]
 pub struct Call {
     pub number: u64,
     pub n: u64,

@@ -2,14 +2,14 @@
 ghost use Rattle.std.specs.Prelude.{◌+◌, ◌≤◌, ◌<◌};
 
 // The words of a case, and the number of bytes that it takes.
-#[derive(Drop)]
+#[derive(Clone, Copy)]
 pub struct Case {
     pub words: [u64; 2470],
     pub size: usize,
 }
 
 // Some of the bytes: how many they are, and how many words they stand for, of which the first is `word` and the others are 0.
-#[derive(Drop)]
+#[derive(Clone, Copy)]
 struct Token {
     size: usize,
     times: usize,

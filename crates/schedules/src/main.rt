@@ -8,7 +8,7 @@ use std::io::Stdin;
 use store::Desk;
 
 // The next stream, of `size` bytes; with none left, `ended`.
-#[derive(Drop)]
+#[derive(Clone, Copy)]
 struct Stream {
     ended: bool,
     size: usize,

@@ -21,7 +21,7 @@ use store::{
 };
 
 // What came of a step: its outcome, the words of a read (zeros where it is none), the number of entries, and the desk.
-#[derive(Drop)]
+#[derive(Clone, Copy)]
 pub struct Applied {
     pub outcome: Outcome,
     pub words: [u64; 4],

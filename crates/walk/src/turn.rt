@@ -8,7 +8,7 @@ use turns::{State, counted};
 
 // Opens the image, makes a call of recover, reads, makes a step on the opened store, lays the image, puts the line "bad", stops, writes the
 // lines out, or says that they could not be written and stops.
-#[derive(Drop)]
+#[derive(Clone, Copy)]
 pub enum Turn {
     Open,
     Recover,
@@ -22,7 +22,7 @@ pub enum Turn {
 }
 
 // The turn, the words of a write, and the state, behind the step that is taken.
-#[derive(Drop)]
+#[derive(Clone, Copy)]
 pub struct Taken {
     pub turn: Turn,
     pub words: [u64; 4],

@@ -8,7 +8,7 @@ use store::Desk;
 use turns::{State, bad, fail, filled, flush, lay_out, make, opened, resume, stopped, tell};
 
 // The desk and the state after a turn.
-#[derive(Drop)]
+#[derive(Clone, Copy)]
 pub struct Turned {
     pub desk: Desk,
     pub state: State,
