@@ -16,6 +16,7 @@ use Rattle.layout.specs.Homes.{homes_writes}
 use Rattle.layout.specs.Image.{records_of, home_words, place_of, slot_at, shaped_b, occupied_b}
 use Rattle.layout.specs.Lay.{lay_fault, laid_image}
 use Rattle.layout.specs.Oldest.{oldest_of}
+use Rattle.layout.specs.Refusal.{cause}
 use Rattle.layout.specs.Told.{is_refusal}
 use Rattle.journal.specs.Log.{Slot, count_of, rec_of, words_of, short_b, pairs_of, index_of, word_of, pairs_writes, denoted, log_entries, unsound_b, shared_b}
 use Rattle.desk.specs.Coherent.{fresh_b, places_ok, session_ok, copies_b, coherent_b}
@@ -172,7 +173,7 @@ publish-stores img d len s e = go (publish_fault img d len s) e
 -- ---- in numbers
 
 pub ceilings : Ceilings
-unfolding all_below any_below count_below lowest first answered shaped_b occupied_b lay_fault laid_image oldest_of unsound_b shared_b fresh_b places_ok session_ok copies_b coherent_b entry_fault publish_fault publish_entries publish_reply open_fault open_entries open_reply unsound_place tied_below ties_b recover_fault first_log recover_reply read_fault read_reply
+unfolding all_below any_below count_below lowest first answered cause shaped_b occupied_b lay_fault laid_image oldest_of unsound_b shared_b fresh_b places_ok session_ok copies_b coherent_b entry_fault publish_fault publish_entries publish_reply open_fault open_entries open_reply unsound_place tied_below ties_b recover_fault first_log recover_reply read_fault read_reply
 ceilings =
     record {
       laid = refl;

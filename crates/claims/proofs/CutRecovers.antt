@@ -13,6 +13,7 @@ use Rattle.layout.specs.Checks.{first, answered}
 use Rattle.layout.specs.Crash.{crashed as crash}
 use Rattle.layout.specs.Entries.{made}
 use Rattle.layout.specs.Image.{records_of, sessions_of, home_words, slot_at, persist_at, occupied_at, occupied_b, ceiling_of}
+use Rattle.layout.specs.Refusal.{cause}
 use Rattle.layout.specs.Told.{clean}
 use Rattle.layout.proofs.Says.{by-test, says_ne, says_any, says-not}
 use Rattle.desk.specs.Coherent.{limit}
@@ -64,7 +65,7 @@ module _ (N M : ℕ) (w : World) (a : Along N M w) (c : Call) (k : ℕ) (sel : �
 module _ (N M : ℕ) (img : List ℕ) (w : Whole N M img) (c : Clean (2 * M) (view N img)) where
   -- opens, with room in the trace, or is refused with 10 by its ceiling
   pub clean-opens : (x : ℕ) → (store_rules.opens img (48 + x)).told ≡ opening_due (ceiling_of img)
-  unfolding open_reply open_fault answered first occupied_b
+  unfolding open_reply open_fault answered first occupied_b cause
   clean-opens x = rw (w.shaped, le-leb 48 (48 + x) (omega arith), none) (by-test (ltb (ceiling_of img) limit) (λ e. rw e refl) (λ e. rw e refl))
     where
       none : any_below (2 * sessions_of img) (occupied_at img (records_of img)) ≡ false

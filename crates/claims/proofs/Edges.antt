@@ -9,6 +9,7 @@ use Rattle.journal.specs.Changes.{changes_of, changes_below}
 use Rattle.journal.specs.Lengths.{finish_length, recover_length, seal_length, replay_length}
 use Rattle.journal.specs.Log.{pairs_writes, denoted, body_writes, short_writes, unsound_b, shared_b}
 use Rattle.layout.specs.Oldest.{oldest_of}
+use Rattle.layout.specs.Refusal.{cause}
 use Rattle.desk.specs.Desk.{unmarked}
 use Rattle.desk.specs.Coherent.{fresh_b, places_ok, session_ok, copies_b, coherent_b}
 use Rattle.desk.specs.Entering.{entry_fault}
@@ -21,7 +22,7 @@ use Rattle.recovery.specs.Recover.{unsound_place, tied_below, ties_b, recover_fa
 use Rattle.claims.specs.Edges.{Edges}
 
 pub edges : Edges
-unfolding all_below any_below count_below lowest first answered shaped_b occupied_b lay_fault lay_answer homes_writes body_writes denoted pairs_writes short_writes changes_of changes_below seal_length replay_length finish_length recover_length unsound_b shared_b oldest_of unmarked fresh_b places_ok session_ok copies_b coherent_b entry_fault open_fault open_reply read_fault sight_of read_reply copy_fault write_fault write_refused write_reply finish_fault finish_entries finish_reply reclaim_fault reclaim_reply unsound_place tied_below ties_b recover_fault first_log recover_refused recover_reply
+unfolding all_below any_below count_below lowest first answered cause shaped_b occupied_b lay_fault lay_answer homes_writes body_writes denoted pairs_writes short_writes changes_of changes_below seal_length replay_length finish_length recover_length unsound_b shared_b oldest_of unmarked fresh_b places_ok session_ok copies_b coherent_b entry_fault open_fault open_reply read_fault sight_of read_reply copy_fault write_fault write_refused write_reply finish_fault finish_entries finish_reply reclaim_fault reclaim_reply unsound_place tied_below ties_b recover_fault first_log recover_refused recover_reply
 edges =
     record {
       a-lay = refl;

@@ -8,6 +8,7 @@ use native.Mathlib.Omega.{arith}
 use lib.ListN.{length, get_or}
 use lib.Seq.{get_or-set_same, get_or-set_other}
 use borrow.Author.Tests.{lt-ltb, le-ltb, eq-eqb, ne_eqb}
+use Rattle.std.specs.Prelude.{Option, None, Ok}
 use Rattle.layout.specs.Checks.{unless, room_for}
 use Rattle.layout.specs.Entries.{Entry, store, fence, Write, shift}
 use Rattle.layout.specs.Image.{home_words, place_of, slot_at}
@@ -19,6 +20,7 @@ use Rattle.journal.proofs.ChangesLaws.{below-ascending}
 use Rattle.journal.proofs.LogGroups.{length-body, length-short, either-short, either-full}
 use Rattle.journal.proofs.Positions.{write, pair-index, pair-word, short-count, place-record, place-words, body-count}
 use Rattle.desk.specs.Desk.{no_session, copied_rec, copied_words, session_at, is_active, idle_session, with_phase, end_session}
+use Rattle.desk.specs.declared.reply.StoringReply.{StoringReply}
 use Rattle.desk.specs.declared.state.Phase.TheVariants.{Sealed}
 use Rattle.desk.specs.Entering.{image_fault}
 use Rattle.desk.specs.declared.state.Session.{Session}
@@ -27,8 +29,6 @@ use Rattle.desk.proofs.Copied.{copies-below, copies-differ}
 use Rattle.desk.proofs.Entered.{entered}
 use Rattle.commit.specs.Finish.{finish_fault, changed_words, seal_entries, finish_entries, finish_reply}
 use Rattle.commit.specs.Told.{finish_told}
-use Rattle.commit.specs.declared.finishing.FinishAnswer.TheVariants.{Empty}
-use Rattle.commit.specs.declared.finishing.FinishReply.{FinishReply}
 use Rattle.history.specs.Call.{finish}
 use Rattle.history.specs.Log.{In}
 use Rattle.history.proofs.Changed.{in-below, below_in, at_in, in-at, index-ascends}
@@ -180,7 +180,7 @@ module _ (img : List ℕ) (d : Desk) (len s : ℕ) (z : finish_fault img d len s
 
   told : (store_rules.call img d (finish len s)).told ≡ sealed_at d.clock
   unfolding finish_reply
-  told = ap (λ (r : FinishReply). finish_told r.answer) (answered-zero (finish_fault img d len s) _ _ z) ∙ rw (ne_eqb c 0 some)
+  told = ap (λ (r : StoringReply (Option ℕ)). finish_told r.answer) (answered-zero (finish_fault img d len s) _ _ z) ∙ rw (ne_eqb c 0 some)
 
   differing : Pairs img d s (length ws) (index_in ws) (word_in ws)
   unfolding finish_fault
@@ -190,7 +190,7 @@ module _ (img : List ℕ) (d : Desk) (len s : ℕ) (z : finish_fault img d len s
 
   desk-is : (store_rules.call img d (finish len s)).desk ≡ end_session d s (with_phase (session_at d s) (Sealed d.clock)) d.holders
   unfolding finish_reply
-  desk-is = ap (λ (r : FinishReply). r.desk) (answered-zero (finish_fault img d len s) _ _ z) ∙ rw (ne_eqb c 0 some)
+  desk-is = ap (λ (r : StoringReply (Option ℕ)). r.desk) (answered-zero (finish_fault img d len s) _ _ z) ∙ rw (ne_eqb c 0 some)
 
   seals : Seals img d s (store_rules.call img d (finish len s))
   seals =
@@ -213,7 +213,7 @@ module _ (img : List ℕ) (d : Desk) (len s : ℕ) (z : finish_fault img d len s
       }
 
 module _ (img : List ℕ) (d : Desk) (len s : ℕ) (z : finish_fault img d len s ≡ 0) (none : (session_at d s).count ≡ 0) where
-  empty-reply : finish_reply img d len s ≡ record { answer = Empty; entries = 0; desk = end_session d s idle_session d.holders }
+  empty-reply : finish_reply img d len s ≡ record { answer = Ok None; entries = 0; desk = end_session d s idle_session d.holders }
   unfolding finish_reply
   empty-reply = answered-zero (finish_fault img d len s) _ _ z ∙ rw (eq-eqb (session_at d s).count 0 none)
 
@@ -224,10 +224,10 @@ module _ (img : List ℕ) (d : Desk) (len s : ℕ) (z : finish_fault img d len s
   empties : Empties d s (store_rules.call img d (finish len s))
   empties =
       record {
-        told = ap (λ (x : FinishReply). finish_told x.answer) empty-reply;
+        told = ap (λ (x : StoringReply (Option ℕ)). finish_told x.answer) empty-reply;
         entries = no-entries;
-        count = ap (λ (x : FinishReply). x.entries) empty-reply;
-        desk = rw (ap (λ (x : FinishReply). x.desk) empty-reply) (desk-with img d len s z idle_session);
+        count = ap (λ (x : StoringReply (Option ℕ)). x.entries) empty-reply;
+        desk = rw (ap (λ (x : StoringReply (Option ℕ)). x.desk) empty-reply) (desk-with img d len s z idle_session);
       }
 
 pub finish-due : FinishDue store_rules

@@ -25,6 +25,7 @@ pub mod ReadyKept
 pub mod Along
 pub mod Views
 pub mod CutRecovers
+pub mod Causes
 pub mod Rows
 pub mod Refusals
 pub mod ByEntry

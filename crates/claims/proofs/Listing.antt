@@ -9,6 +9,7 @@ use lib.Dec.{eqb, ltb}
 use lib.ListN.{get_or, length, get_or-eq_default}
 use lib.Seq.{get_or-set_same, get_or-set_other}
 use borrow.Author.Tests.{eq-eqb, ne_eqb, ltb-true, ltb-false}
+use Rattle.std.specs.Prelude.{⊤, Option}
 use Rattle.layout.specs.Checks.{unless, first, room_for}
 use Rattle.layout.specs.Told.{ok}
 use Rattle.layout.specs.declared.oldest.Oldest.{Oldest}
@@ -22,7 +23,8 @@ use Rattle.desk.specs.Desk.{session_at, order_at, is_idle, is_active, start_at, 
 use Rattle.desk.specs.Entering.{image_fault, desk_fault}
 use Rattle.desk.specs.Group.{group_fault, group_reply}
 use Rattle.desk.specs.Publish.{publish_fault, publish_reply}
-use Rattle.desk.specs.declared.publish.PublishReply.{PublishReply}
+use Rattle.desk.specs.declared.reply.Reply.{Reply}
+use Rattle.desk.specs.declared.reply.StoringReply.{StoringReply}
 use Rattle.desk.specs.declared.state.Desk.{Desk}
 use Rattle.desk.specs.declared.state.Phase.TheVariants.{Published}
 use Rattle.layout.proofs.Counts.{by-same}
@@ -32,24 +34,19 @@ use Rattle.desk.specs.Coherent.{coherent_b}
 use Rattle.desk.proofs.Facts.{Coherent, says-order, says-coherent}
 use Rattle.layout.proofs.Order.{InOrder, places-apart, all_listed, skip, skip_is}
 use Rattle.desk.proofs.Without.{without_at}
-use Rattle.snapshot.specs.Own.{own_place}
-use Rattle.snapshot.specs.Read.{read_fault, read_done, read_reply}
+use Rattle.snapshot.specs.Read.{read_fault, read_reply}
 use Rattle.snapshot.specs.Write.{owns_b, write_fault, write_refused, write_reply}
-use Rattle.snapshot.specs.declared.reading.ReadReply.{ReadReply}
-use Rattle.snapshot.specs.declared.writing.WriteReply.{WriteReply}
+use Rattle.snapshot.specs.declared.seeing.Sight.{Sight}
 use Rattle.commit.specs.Finish.{finish_fault, finish_done, finish_reply}
 use Rattle.commit.specs.Reclaim.{none_left, held_b, reclaim_fault, reclaim_done, reclaim_reply}
 use Rattle.commit.specs.Settle.{end_of, starts_for, oldest_reader, waits_b, settle_fault, settle_entries, settle_refused, settle_done, settle_reply}
 use Rattle.commit.specs.Told.{settle_told}
-use Rattle.commit.specs.declared.finishing.FinishReply.{FinishReply}
-use Rattle.commit.specs.declared.reclaiming.ReclaimReply.{ReclaimReply}
-use Rattle.commit.specs.declared.settling.SettleReply.{SettleReply}
+use Rattle.commit.specs.declared.reclaiming.Reclaimed.{Reclaimed}
 use Rattle.commit.proofs.Front.{in-the-way, active-below}
 use Rattle.listening.specs.Find.{find_fault, find_reply}
 use Rattle.listening.specs.Finish.{listen_finish_reply}
 use Rattle.listening.specs.Listener.{listener_fault}
 use Rattle.listening.specs.Read.{listen_read_fault, listen_read_reply}
-use Rattle.listening.specs.declared.finding.FindReply.{FindReply}
 use Rattle.history.specs.Call.{begin, abandon, settle}
 use Rattle.claims.specs.Listing.{Listed, ListRule, CoherenceKept, Joins, Leaves, ListDue, LowestInFront, WaitsFor, SettleByFront}
 use Rattle.claims.specs.Refusals.{first_cause}
@@ -102,7 +99,7 @@ module _ (d : Desk) (s : ℕ) (long : length d.order ≡ 16) where
       let k = joinable d s h (unless-zero _ 5 (first-both (desk_fault d s) _ z).1) in
       rw (answered-zero (first (desk_fault d s) (unless (is_idle (session_at d s).phase) 6)) _ _ z)
       (record {
-        last = get_or-set_same d.order (active_count d) s 0 (omega (arith, long, k.1));
+        last = get_or-set_same d.order (active_count d) s 0 (omega (arith, long, k));
         others = λ j ne. get_or-set_other d.order (active_count d) j s 0 ne;
       })
 
@@ -148,7 +145,7 @@ module _ (d : Desk) (s : ℕ) (long : length d.order ≡ 16) where
         let b = first-both (image_fault img d (room_for len) s) _ z in
         let h = entered img d (room_for len) s b.0 in
         leaves h.coherent h.small (unless-zero _ 5 (first-both (unless (is_active (session_at d s).phase) 6) _ b.1).0) (finish_reply img d len s).desk
-        (ap (λ (r : FinishReply). r.desk.order) (answered-zero (finish_fault img d len s) _ _ z) ∙ finished)
+        (ap (λ (r : StoringReply (Option ℕ)). r.desk.order) (answered-zero (finish_fault img d len s) _ _ z) ∙ finished)
 
     stops : (len : ℕ) → listener_fault img d (room_for len) s ≡ 0 → Leaves d s (listen_finish_reply img d len s).desk
     unfolding listen_finish_reply listener_fault
@@ -156,7 +153,7 @@ module _ (d : Desk) (s : ℕ) (long : length d.order ≡ 16) where
         let b = first-both (image_fault img d (room_for len) s) _ z in
         let h = entered img d (room_for len) s b.0 in
         leaves h.coherent h.small (unless-zero _ 5 (first-both (unless (is_active (session_at d s).phase) 6) _ b.1).0) (listen_finish_reply img d len s).desk
-        (ap (λ (r : FinishReply). r.desk.order) (answered-zero (listener_fault img d (room_for len) s) _ _ z) ∙ finished)
+        (ap (λ (r : StoringReply (Option ℕ)). r.desk.order) (answered-zero (listener_fault img d (room_for len) s) _ _ z) ∙ finished)
 
 -- ---- whom settle names
 
@@ -246,15 +243,15 @@ module _ (img : List ℕ) (d : Desk) (len s end : ℕ) (z : settle_fault img d l
       let e = answered-zero (settle_fault img d len s) (settle_refused d) (settle_done d s) z in
       record {
         session = reader.place;
-        told = ap (λ (r : SettleReply). settle_told r.answer) e ∙ rw (ne_eqb reader.number 0 n);
+        told = ap (λ (r : StoringReply (Option ℕ)). settle_told r.answer) e ∙ rw (ne_eqb reader.number 0 n);
         oldest = oldest;
         entries = answered-zero (settle_fault img d len s) _ _ z ∙ rw (ne_eqb reader.number 0 n);
-        desk = ap (λ (r : SettleReply). r.desk) e ∙ rw (ne_eqb reader.number 0 n);
+        desk = ap (λ (r : StoringReply (Option ℕ)). r.desk) e ∙ rw (ne_eqb reader.number 0 n);
       }
 
   goes-told : reader.number ≡ 0 → (store_rules.call img d (settle len s)).told ≡ ok
   unfolding settle_reply
-  goes-told e = ap (λ (r : SettleReply). settle_told r.answer) (answered-zero (settle_fault img d len s) _ _ z) ∙ rw (eq-eqb reader.number 0 e)
+  goes-told e = ap (λ (r : StoringReply (Option ℕ)). settle_told r.answer) (answered-zero (settle_fault img d len s) _ _ z) ∙ rw (eq-eqb reader.number 0 e)
 
 pub settle-by-front : SettleByFront store_rules
 settle-by-front =
@@ -274,20 +271,17 @@ module _ (img : List ℕ) (d : Desk) (s r : ℕ) (ws : List ℕ) where
       let q = taken-entered img d s r z in
       let h = entered img d true s q.0 in
       leaves d s long h.coherent h.small q.1 (write_reply img d s r ws).desk
-      (by_answer (λ (x : WriteReply). x.desk.order ≡ without s d.order) (write_fault img d s r) _ _ (rw (eq-eqb _ 7 z)) (λ y. absurd (omega (arith, z))))
+      (by_answer (λ (x : Reply ⊤). x.desk.order ≡ without s d.order) (write_fault img d s r) _ _ (rw (eq-eqb _ 7 z)) (λ y. absurd (omega (arith, z))))
 
   written : (write_fault img d s r ≡ 7 → ⊥) → (write_reply img d s r ws).desk.order ≡ d.order
   unfolding write_reply write_refused
   written n =
-      by_answer (λ (x : WriteReply). x.desk.order ≡ d.order) (write_fault img d s r) _ _ (rw (ne_eqb _ 7 n))
+      by_answer (λ (x : Reply ⊤). x.desk.order ≡ d.order) (write_fault img d s r) _ _ (rw (ne_eqb _ 7 n))
       (λ z. by-test (owns_b d s r) (λ t. rw t) (λ t. rw t))
 
 -- a call whose replies all have the list of the desk
 reclaimed : (img : List ℕ) (d : Desk) (s : ℕ) → (reclaim_done img d s).desk.order ≡ d.order
 reclaimed img d s = by-test (none_left img d s) (λ t. rw t) (λ t. rw t (by-test (held_b img d s) (λ u. rw u) (λ u. rw u)))
-
-read-order : (img : List ℕ) (d : Desk) (s r : ℕ) → (read_done img d s r).desk.order ≡ d.order
-read-order img d s r = by-test (ltb (own_place (session_at d s) r) 4) (λ t. rw t) (λ t. rw t)
 
 begin-row : (img : List ℕ) (d : Desk) (s : ℕ) → begin_fault d s ≡ first_cause img d (begin s)
 unfolding begin_fault
@@ -308,11 +302,11 @@ list-due =
       abandons = λ img d s long z. abandons d s long (abandon-row img d s ∙ z);
       taken = λ img d s r ws long z. taken img d s r ws long (write-row img d s r ws ∙ z);
       writes = λ img d s r ws n. written img d s r ws (λ z. n (sym (write-row img d s r ws) ∙ z));
-      reads = λ img d s r. by_answer (λ (x : ReadReply). x.desk.order ≡ d.order) (read_fault img d s r) _ _ refl (λ z. read-order img d s r);
-      publishes = λ img d len s. by_answer (λ (x : PublishReply). x.desk.order ≡ d.order) (publish_fault img d len s) _ _ refl (λ z. refl);
-      groups = λ img d len set. by_answer (λ (x : PublishReply). x.desk.order ≡ d.order) (group_fault img d len set) _ _ refl (λ z. refl);
-      settles = λ img d len s. by_answer (λ (x : SettleReply). x.desk.order ≡ d.order) (settle_fault img d len s) _ _ refl (λ z. by-test (waits_b d s) (λ t. rw t) (λ t. rw t));
-      reclaims = λ img d len s. by_answer (λ (x : ReclaimReply). x.desk.order ≡ d.order) (reclaim_fault img d len s) _ _ refl (λ z. reclaimed img d s);
-      listener-reads = λ img d s r. by_answer (λ (x : ReadReply). x.desk.order ≡ d.order) (listen_read_fault img d s r) _ _ refl (λ z. read-order img d s r);
-      finds = λ img d s k. by_answer (λ (x : FindReply). x.desk.order ≡ d.order) (find_fault img d s k) _ _ refl (λ z. refl);
+      reads = λ img d s r. by_answer (λ (x : Reply Sight). x.desk.order ≡ d.order) (read_fault img d s r) _ _ refl (λ z. refl);
+      publishes = λ img d len s. by_answer (λ (x : StoringReply ℕ). x.desk.order ≡ d.order) (publish_fault img d len s) _ _ refl (λ z. refl);
+      groups = λ img d len set. by_answer (λ (x : StoringReply ℕ). x.desk.order ≡ d.order) (group_fault img d len set) _ _ refl (λ z. refl);
+      settles = λ img d len s. by_answer (λ (x : StoringReply (Option ℕ)). x.desk.order ≡ d.order) (settle_fault img d len s) _ _ refl (λ z. by-test (waits_b d s) (λ t. rw t) (λ t. rw t));
+      reclaims = λ img d len s. by_answer (λ (x : StoringReply Reclaimed). x.desk.order ≡ d.order) (reclaim_fault img d len s) _ _ refl (λ z. reclaimed img d s);
+      listener-reads = λ img d s r. by_answer (λ (x : Reply Sight). x.desk.order ≡ d.order) (listen_read_fault img d s r) _ _ refl (λ z. refl);
+      finds = λ img d s k. by_answer (λ (x : Reply (Option ℕ)). x.desk.order ≡ d.order) (find_fault img d s k) _ _ refl (λ z. refl);
     }

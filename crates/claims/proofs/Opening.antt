@@ -10,6 +10,7 @@ use lib.Dec.{eqb}
 use lib.ListN.{get_or, replicate, get_or-eq_default}
 use lib.Seq.{get_or-set_same}
 use borrow.Author.Tests.{eqb-true}
+use Rattle.std.specs.Prelude.{⊤}
 use Rattle.layout.specs.Below.{any_below}
 use Rattle.layout.proofs.BelowLaws.{any-finds}
 use Rattle.layout.specs.Ceiling.{raise_entries}
@@ -21,11 +22,11 @@ use Rattle.layout.proofs.Says.{test}
 use Rattle.layout.proofs.Shape.{Shaped, says-shaped}
 use Rattle.layout.specs.Told.{ok}
 use Rattle.desk.specs.Desk.{no_session, idle_session}
+use Rattle.desk.specs.declared.reply.StoringReply.{StoringReply}
 use Rattle.journal.specs.Log.{Sound}
 use Rattle.recovery.specs.Open.{open_fault, open_entries, open_reply, open_refused, opened as opened_reply, fresh_desk}
 use Rattle.recovery.proofs.OpenLaws.{Openable, openable, open-opens}
 use Rattle.recovery.specs.Told.{open_told}
-use Rattle.recovery.specs.declared.opening.OpenReply.{OpenReply}
 use Rattle.history.specs.Log.{Occupied, Clean}
 use Rattle.history.specs.Layout.{body, log_of, view}
 use Rattle.history.specs.Desk.{spot, Session as Txn, idle}
@@ -76,7 +77,7 @@ module _ (img : List ℕ) (len : ℕ) (o : open_told (open_reply img len).answer
   clock = ceiling_of img + 1
 
   pub opens-desk : (open_reply img len).desk ≡ fresh_desk (ceiling_of img + 1) (records_of img) (sessions_of img)
-  opens-desk = ap (λ (r : OpenReply). r.desk) (open-opens img len passes).replies
+  opens-desk = ap (λ (r : StoringReply ⊤). r.desk) (open-opens img len passes).replies
 
   pub opens-entries : open_entries img len ≡ raise_entries (ceiling_of img + 1)
   opens-entries = (open-opens img len passes).lists

@@ -7,6 +7,7 @@ use native.Mathlib.Omega.{arith}
 use lib.Dec.{ltb}
 use lib.ListN.{length, get_or, replicate, length-replicate, get_or-replicate}
 use borrow.Author.Tests.{eq-eqb, le-leb, lt-ltb}
+use Rattle.std.specs.Prelude.{⊤}
 use Rattle.layout.specs.Checks.{first}
 use Rattle.layout.specs.Image.{records_of, sessions_of, ceiling_of, in_range, shaped_b, occupied_b, persist_at}
 use Rattle.layout.specs.Lay.{lay_fault, lay_answer, laid_image, empty_image}
@@ -16,10 +17,10 @@ use Rattle.layout.proofs.Says.{says_ne, says_any, says-not}
 use Rattle.layout.proofs.Shape.{says_range, says-shaped}
 use Rattle.desk.specs.Coherent.{limit}
 use Rattle.desk.specs.Desk.{idle_session, no_session}
+use Rattle.desk.specs.declared.reply.StoringReply.{StoringReply}
 use Rattle.desk.specs.declared.state.Session.{Session}
 use Rattle.recovery.specs.Open.{open_fault, opened, open_reply}
 use Rattle.recovery.specs.Told.{open_told}
-use Rattle.recovery.specs.declared.opening.OpenReply.{OpenReply}
 use Rattle.claims.specs.Rules.{store_rules}
 use Rattle.claims.specs.Recovering.{AllEmpty}
 use Rattle.claims.proofs.Opening.{facts, opens-clean}
@@ -44,10 +45,10 @@ module _ (img : List ℕ) (len : ℕ) (f : Fits img) (none : AllEmpty img) (low 
   opens : Opened img (store_rules.opens img len)
   opens =
       record {
-        told = ap (λ (r : OpenReply). open_told r.answer) reply;
-        clock = ap (λ (r : OpenReply). r.desk.clock) reply;
-        n = ap (λ (r : OpenReply). r.desk.n) reply;
-        m = ap (λ (r : OpenReply). r.desk.m) reply;
+        told = ap (λ (r : StoringReply ⊤). open_told r.answer) reply;
+        clock = ap (λ (r : StoringReply ⊤). r.desk.clock) reply;
+        n = ap (λ (r : StoringReply ⊤). r.desk.n) reply;
+        m = ap (λ (r : StoringReply ⊤). r.desk.m) reply;
         idle = λ s l. let e = get_or-replicate {A = Session} 16 s idle_session no_session l in rw (reply, e) (refl, refl);
         unmarked = λ r l. rw reply (get_or-replicate {A = ℕ} 256 r 0 0 l);
         unlisted = λ j l. rw reply (get_or-replicate {A = ℕ} 16 j 0 0 l);
@@ -68,7 +69,7 @@ only img len o =
 unopened : (img : List ℕ) (len : ℕ) → is_refusal (store_rules.opens img len).told ≡ true → Unopened (store_rules.opens img len).desk
 unfolding open_reply
 unopened img len =
-    by_answer (λ (r : OpenReply). is_refusal (open_told r.answer) ≡ true → Unopened r.desk) (open_fault img len) _ _
+    by_answer (λ (r : StoringReply ⊤). is_refusal (open_told r.answer) ≡ true → Unopened r.desk) (open_fault img len) _ _
     (λ e.
     record {
       clock = refl;

@@ -18,6 +18,7 @@ use Rattle.layout.specs.Checks.{first, answered}
 use Rattle.layout.proofs.ChecksLaws.{answered-zero}
 use Rattle.layout.specs.Entries.{Entry, made, ends_fenced}
 use Rattle.layout.specs.Image.{records_of, sessions_of, shaped_b, slot_at, slot_word, persist_at, occupied_at, ceiling_of}
+use Rattle.layout.specs.Refusal.{cause}
 use Rattle.layout.specs.Told.{Told, refusal, clean, replayed, code_told}
 use Rattle.journal.specs.Log.{unsound_b, used_of, touched_of}
 use Rattle.layout.proofs.Least.{Least, oldest-is}
@@ -170,7 +171,7 @@ module _ (N M : ℕ) (img : List ℕ) (len : ℕ) (w : Whole N M img) (g : Good 
   short-entries l = rw (short l) refl
 
   short-tells : len < 48 → (store_rules.recover img len).told ≡ refusal 3
-  unfolding recover_reply recover_refused answered
+  unfolding recover_reply recover_refused answered cause
   short-tells l = rw (short l) refl
 
   -- where it tells "clean" no slot is occupied, and nothing is stored

@@ -8,19 +8,21 @@ use mathlib.Core.List.{List, [], ◌∷◌, ◌++◌}
 use native.Mathlib.Omega.{arith}
 use lib.Dec.{T, leb, eqb, eqb→eq}
 use borrow.Author.Tests.{eq-eqb}
+use Rattle.std.specs.Prelude.{Ok as Done, Err}
 use Rattle.layout.specs.Image.{records_of, sessions_of}
+use Rattle.layout.specs.Refusal.{Answer, cause}
 use Rattle.layout.specs.Told.{Told, ok, own, is, refused_by, value_of, is_refusal, code_told, words_told, Ok, Start, Empty, Sealed, End}
 use Rattle.layout.proofs.Says.{says-itself, says-and}
 use Rattle.desk.specs.Group.{member}
+use Rattle.desk.specs.declared.reply.Reply.{Reply}
 use Rattle.desk.specs.declared.state.Desk.{Desk as StoreDesk}
 use Rattle.snapshot.specs.Read.{read_reply}
-use Rattle.snapshot.specs.Told.{read_told, write_told}
+use Rattle.snapshot.specs.Told.{words_from, read_told, write_told}
 use Rattle.snapshot.specs.Write.{write_says, write_reply}
 use Rattle.snapshot.proofs.ToldLaws.{read-told}
-use Rattle.snapshot.specs.declared.reading.ReadAnswer.{ReadAnswer}
-use Rattle.snapshot.specs.declared.reading.ReadAnswer.TheVariants.{Refused, Own, Copy, Home}
-use Rattle.snapshot.specs.declared.reading.ReadReply.{ReadReply}
-use Rattle.snapshot.specs.declared.writing.WriteAnswer.TheVariants.{Refused as WriteRefused, Ok as Written}
+use Rattle.snapshot.specs.declared.seeing.Source.{Source}
+use Rattle.snapshot.specs.declared.seeing.Source.TheVariants.{Own, Copy, Home}
+use Rattle.snapshot.specs.declared.seeing.Sight.{Sight}
 use Rattle.reels.specs.Reel.{words_of, good_b, pack_fault, packable_b}
 use Rattle.reels.specs.Read.{reel_read, read_reel_reply}
 use Rattle.reels.specs.Unpack.{mark_of}
@@ -181,26 +183,31 @@ module _ (s r : ℕ) (ws : List ℕ) where
 -- ---- the library
 
 -- a write that the library takes is of a reel that may be packed, and the store takes its words
-written-packable : (img : List ℕ) (d : StoreDesk) (s r : ℕ) (reel : Reel) → (write_reel_reply img d s r reel).answer ≡ Written
-    → (packable_b reel ≡ true) × ((write_reply img d s r (words_of reel)).answer ≡ Written)
+written-packable : (img : List ℕ) (d : StoreDesk) (s r : ℕ) (reel : Reel) → (write_reel_reply img d s r reel).answer ≡ Done tt
+    → (packable_b reel ≡ true) × ((write_reply img d s r (words_of reel)).answer ≡ Done tt)
 unfolding write_reel_reply
 written-packable img d s r reel e = go (packable_b reel) e
   where
-    go : (b : Bool) → (cond b (write_reply img d s r (words_of reel)) (write_says d (WriteRefused (pack_fault reel)))).answer ≡ Written
-        → (b ≡ true) × ((write_reply img d s r (words_of reel)).answer ≡ Written)
+    go : (b : Bool) → (cond b (write_reply img d s r (words_of reel)) (write_says d (Err (cause (pack_fault reel))))).answer ≡ Done tt
+        → (b ≡ true) × ((write_reply img d s r (words_of reel)).answer ≡ Done tt)
     go true e = (refl, e)
     go false e = let w : ◌≡◌ {A = ℕ} 0 1 = cc in absurd (omega arith)
 
 -- a read that tells the session's own words of a good reel finds the reel, with its mark or none
-told-own : (x : ReadReply) (reel : Reel) → good_b reel ≡ true → read_told x.answer x.words ≡ own (words_of reel)
-    → reel_read x ≡ own_reel (mark_of reel) x.desk reel
-told-own x reel g e = let p = go x.answer x.words e in rw (p.0, p.1, good-unpacks reel g) refl
+told-own : (x : Reply Sight) (reel : Reel) → good_b reel ≡ true → read_told x.answer ≡ own (words_of reel)
+    → reel_read x ≡ own_reel (mark_of reel) x.desk
+told-own x reel g e = let p = go x.answer e in rw (p, good-unpacks reel g) refl
   where
-    go : (a : ReadAnswer) (vs : List ℕ) → read_told a vs ≡ own (words_of reel) → (a ≡ Own) × (vs ≡ words_of reel)
-    go (Refused k) vs e = let w : ◌≡◌ {A = ℕ} 0 22 = ap code_told e in absurd (omega arith)
-    go Own vs e = (refl, ap words_told e)
-    go Copy vs e = let w : ◌≡◌ {A = ℕ} 23 22 = ap code_told e in absurd (omega arith)
-    go Home vs e = let w : ◌≡◌ {A = ℕ} 24 22 = ap code_told e in absurd (omega arith)
+    by-source : (a : Source) (vs : List ℕ) → words_from a vs ≡ own (words_of reel) → (a ≡ Own) × (vs ≡ words_of reel)
+    by-source Own vs e = (refl, ap words_told e)
+    by-source Copy vs e = let w : ◌≡◌ {A = ℕ} 23 22 = ap code_told e in absurd (omega arith)
+    by-source Home vs e = let w : ◌≡◌ {A = ℕ} 24 22 = ap code_told e in absurd (omega arith)
+
+    go : (a : Answer Sight) → read_told a ≡ own (words_of reel) → a ≡ Done (record { source = Own; words = words_of reel })
+    go (Err k) e = let w : ◌≡◌ {A = ℕ} 0 22 = ap code_told e in absurd (omega arith)
+    go (Done y) e =
+        let p = by-source y.source y.words e in
+        let h : Done (record { source = y.source; words = y.words }) ≡ Done (record { source = Own; words = words_of reel }) = rw (p.0, p.1) refl in h
 
 module _ (img : List ℕ) (len : ℕ) (o : (store_rules.opens img len).told ≡ ok) (earlier : List Call) (s r : ℕ) (reel : Reel) where
   abbrev w : World
@@ -211,7 +218,7 @@ module _ (img : List ℕ) (len : ℕ) (o : (store_rules.opens img len).told ≡ 
       → (reply store_rules (behind w s r reel calls) c).told ≡ (due (records_of img) (sessions_of img) (behind w s r reel calls).ledger c).answer
   tells-due calls c = rw (run-append earlier (write s r (words_of reel) ∷ calls) (opened store_rules img len)) at (demand2 img len o (earlier ++ (write s r (words_of reel) ∷ calls)) c)
 
-  module _ (e : (write_reply w.image w.desk s r (words_of reel)).answer ≡ Written) (good : good_b reel ≡ true) where
+  module _ (e : (write_reply w.image w.desk s r (words_of reel)).answer ≡ Done tt) (good : good_b reel ≡ true) where
     -- the store tells ok of the write
     taken : (reply store_rules w (write s r (words_of reel))).told ≡ ok
     unfolding reply
@@ -224,7 +231,7 @@ module _ (img : List ℕ) (len : ℕ) (o : (store_rules.opens img len).told ≡ 
     finds calls y =
         let v = behind w s r reel calls in
         told-own (read_reply v.image v.desk s r) reel good (tells-due calls (read s r) ∙ y)
-        ∙ ap (λ (d : StoreDesk). own_reel (mark_of reel) d reel) (read-desk v.image v.desk s r)
+        ∙ ap (own_reel (mark_of reel)) (read-desk v.image v.desk s r)
 
     -- the ledger behind the write
     after_write : (step store_rules w (write s r (words_of reel))).ledger ≡ noted s r (words_of reel) w.ledger

@@ -16,14 +16,14 @@ use Rattle.layout.proofs.ChecksLaws.{first-assoc}
 use Rattle.layout.proofs.Says.{by-test, says-and, says-lt, says_eq, says_any, says-itself, says-not, says-equal}
 use Rattle.desk.specs.Coherent.{limit, coherent_b, place_has}
 use Rattle.desk.specs.Desk.{session_at, mark_at, copied_rec, is_active, is_sealed, is_published}
-use Rattle.desk.specs.Entering.{session_fault, desk_fault, agrees_b, entry_fault, image_fault}
+use Rattle.desk.specs.Entering.{session_fault, desk_fault, agrees_b, entry_fault, image_fault, record_fault}
 use Rattle.desk.specs.Publish.{publish_fault}
 use Rattle.desk.specs.Group.{member, store_fault, member_low, member_sealed, set_fault, group_fault}
 use Rattle.desk.specs.declared.state.Phase.{Phase}
 use Rattle.desk.specs.declared.state.Session.{Session}
 use Rattle.desk.specs.declared.state.Desk.{Desk}
 use Rattle.desk.proofs.Facts.{Copies}
-use Rattle.desk.proofs.RecordEntered.{record_fault, RecordEntered, record-entered}
+use Rattle.desk.proofs.RecordEntered.{RecordEntered, record-entered}
 use Rattle.snapshot.specs.Own.{own_place}
 use Rattle.snapshot.specs.Read.{read_fault}
 use Rattle.snapshot.specs.Write.{slot_empty, empty_slot, copy_fault, owns_b, write_fault}

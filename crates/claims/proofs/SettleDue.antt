@@ -5,6 +5,7 @@ use mathlib.Core.Path.{◌≡◌, refl, sym, ap, ◌∙◌}
 use mathlib.Core.List.{List, [], ◌∷◌}
 use native.Mathlib.Omega.{arith}
 use lib.ListN.{length, length-append}
+use Rattle.std.specs.Prelude.{Option}
 use Rattle.layout.specs.Checks.{answered}
 use Rattle.layout.specs.Entries.{store, fence, Write, stores}
 use Rattle.layout.specs.Homes.{homes_writes}
@@ -14,17 +15,17 @@ use Rattle.layout.proofs.Groups.{length-homes, length-stores}
 use Rattle.layout.proofs.Says.{by-test}
 use Rattle.journal.proofs.Positions.{copy-home}
 use Rattle.desk.specs.Desk.{copied_rec, copied_words, session_at}
+use Rattle.desk.specs.declared.reply.StoringReply.{StoringReply}
 use Rattle.desk.specs.declared.state.Desk.{Desk}
 use Rattle.commit.specs.Settle.{settle_fault, waits_b, go_home_entries, settle_entries, settle_refused, settle_done, settle_reply}
 use Rattle.commit.specs.Told.{settle_told}
-use Rattle.commit.specs.declared.settling.SettleReply.{SettleReply}
 use Rattle.history.specs.Call.{settle}
 use Rattle.claims.specs.Rules.{store_rules}
 use Rattle.claims.specs.SettleDue.{GoesHome, SettleDue}
 use Rattle.claims.proofs.ByEntry.{entry-stored, entry-behind}
 use Rattle.claims.proofs.Lists.{lists}
 
-passed : (d : Desk) (x : SettleReply) (k : ℕ) → settle_told (answered k (settle_refused d) x).answer ≡ ok → k ≡ 0
+passed : (d : Desk) (x : StoringReply (Option ℕ)) (k : ℕ) → settle_told (answered k (settle_refused d) x).answer ≡ ok → k ≡ 0
 unfolding answered
 passed d x zero e = refl
 passed d x (suc k) e = absurd (false≢true (sym (ap is_refusal e)))
@@ -58,4 +59,4 @@ pub settle-due : SettleDue store_rules
 unfolding settle_reply
 settle-due img d len s e =
     let z = passed d (settle_done d s) (settle_fault img d len s) e in
-    goes-home img d len s z (goes d s (sym (ap (λ (r : SettleReply). settle_told r.answer) (answered-zero (settle_fault img d len s) _ _ z)) ∙ e))
+    goes-home img d len s z (goes d s (sym (ap (λ (r : StoringReply (Option ℕ)). settle_told r.answer) (answered-zero (settle_fault img d len s) _ _ z)) ∙ e))

@@ -42,7 +42,7 @@ pub record Checked (d : Desk) (f : ℕ → ℕ) : Type 1 where
   pub refused : ℕ → Gives
   pub done : Gives
   pub listed : List Entry
-  pub refuses : (k : ℕ) → tells (refused k) ≡ refusal k
+  pub refuses : (k : ℕ) → k < 20 → tells (refused (suc k)) ≡ refusal (suc k)
   pub keeps : (k : ℕ) → left (refused k) ≡ d
   pub notes : (k : ℕ) → note_desk call (refusal k) f (abs d) ≡ abs d
 
@@ -53,10 +53,10 @@ module _ (d : Desk) (f : ℕ → ℕ) (c : Checked d f) where
       Sim c.call f d (c.tells (answered fault c.refused c.done)) (answered fault (λ k. []) c.listed)
       (c.left (answered fault c.refused c.done)) y
 
-  -- a refusal
-  pub does-refuse : (k : ℕ) → Does (suc k) (refuse (suc k))
+  -- a refusal by a number of the table
+  pub does-refuse : (k : ℕ) → k < 20 → Does (suc k) (refuse (suc k))
   unfolding answered
-  does-refuse k = record { answers = c.refuses (suc k); stored = refl; desk = ap abs (c.keeps (suc k)) ∙ sym (c.notes (suc k)) }
+  does-refuse k l = record { answers = c.refuses k l; stored = refl; desk = ap abs (c.keeps (suc k)) ∙ sym (c.notes (suc k)) }
 
   -- checks 3 and 4, then the others
   pub past-four : (N M : ℕ) (img : List ℕ) (len s next : ℕ) (y : Due) → Ready N M img d → (s < M → Does next y)
@@ -66,10 +66,10 @@ module _ (d : Desk) (f : ℕ → ℕ) (c : Checked d f) where
     where
       go : Dec (s < M) → Does (first (unless (ltb s M) 4) next) (if_session M s y)
       go (yes x) = rw (lt-ltb s M x, lt-leb M s x) (g x)
-      go (no n) = rw (le-ltb s M (omega arith), le-leb M s (omega arith)) (does-refuse 3)
+      go (no n) = rw (le-ltb s M (omega arith), le-leb M s (omega arith)) (does-refuse 3 (omega arith))
 
       room : Dec (len < 48) → Does (first (image_fault img d (room_for len) s) next) (if_room len (if_session M s y))
-      room (yes l) = rw (short-fault N M img d len s h l, lt-leb 48 len l) (does-refuse 2)
+      room (yes l) = rw (short-fault N M img d len s h l, lt-leb 48 len l) (does-refuse 2 (omega arith))
       room (no n) =
           rw (long-fault N M img d len s h (omega arith) ∙ ap (λ m. unless (ltb s m) 4) h.m-same, le-leb 48 len (omega arith)) (go (dec_lt s M))
 

@@ -7,6 +7,7 @@ use mathlib.Core.List.{List, []}
 use native.Mathlib.Omega.{arith}
 use lib.Dec.{leb}
 use borrow.Author.Tests.{leb-false}
+use Rattle.std.specs.Prelude.{⊤}
 use Rattle.layout.specs.Image.{ceiling_of}
 use Rattle.layout.specs.Checks.{unless, first, answered}
 use Rattle.desk.specs.Desk.{session_at, is_idle, is_active, with_phase, joined}
@@ -16,9 +17,9 @@ use Rattle.desk.specs.declared.state.Phase.{Phase}
 use Rattle.desk.specs.declared.state.Phase.TheVariants.{Idle, Active, Sealed, Published}
 use Rattle.desk.specs.declared.state.Session.{Session}
 use Rattle.desk.specs.declared.state.Desk.{Desk}
-use Rattle.desk.specs.declared.begin.BeginReply.{BeginReply}
-use Rattle.desk.specs.declared.abandon.AbandonReply.{AbandonReply}
+use Rattle.desk.specs.declared.reply.Reply.{Reply}
 use Rattle.desk.proofs.Facts.{SessionIn}
+use Rattle.layout.specs.Refusal.{cause}
 use Rattle.layout.specs.Told.{refusal, ok, start}
 use Rattle.desk.specs.Told.{begin_told, abandon_told}
 use Rattle.history.specs.Call.{begin, abandon}
@@ -42,15 +43,15 @@ module _ (N M : ℕ) (img : List ℕ) (d : Desk) (s : ℕ) (f : ℕ → ℕ) (k 
   e = session_at d s
 
   -- what is due of a reply
-  abbrev BeginSim : BeginReply → Due → Type 0
+  abbrev BeginSim : Reply ℕ → Due → Type 0
   BeginSim x y = Sim (begin s) f d (begin_told x.answer) [] x.desk y
 
-  abbrev AbandonSim : AbandonReply → Due → Type 0
+  abbrev AbandonSim : Reply ⊤ → Due → Type 0
   AbandonSim x y = Sim (abandon s) f d (abandon_told x.answer) [] x.desk y
 
   -- begin takes the clock as the start
   pub begin-sim : BeginSim (begin_reply d s) (due_of N M f (ceiling_of img) (abs d) k (begin s))
-  unfolding begin_reply begin_fault answered first
+  unfolding begin_reply begin_fault answered first cause
   begin-sim = rw (desk-check N M img d h s) (go (leb M s) (leb-false M s) e.phase refl)
     where
       go : (over : Bool) → (over ≡ false → s < M) → (p : Phase) → e.phase ≡ p
@@ -67,7 +68,7 @@ module _ (N M : ℕ) (img : List ℕ) (d : Desk) (s : ℕ) (f : ℕ → ℕ) (k 
 
   -- abandon leaves the session idle
   pub abandon-sim : AbandonSim (abandon_reply d s) (due_of N M f (ceiling_of img) (abs d) k (abandon s))
-  unfolding abandon_reply abandon_fault answered first
+  unfolding abandon_reply abandon_fault answered first cause
   abandon-sim = rw (desk-check N M img d h s) (go (leb M s) (leb-false M s) e.phase)
     where
       go : (over : Bool) → (over ≡ false → s < M) → (p : Phase)

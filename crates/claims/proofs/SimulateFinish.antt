@@ -8,6 +8,7 @@ use native.Mathlib.Omega.{arith}
 use lib.Dec.{ltb, eqb}
 use lib.ListN.{length, get_or}
 use borrow.Author.Tests.{lt-ltb, le-ltb, le-leb, lt-leb, eq-eqb, ne_eqb}
+use Rattle.std.specs.Prelude.{Option}
 use Rattle.layout.specs.Checks.{unless, first, answered}
 use Rattle.layout.specs.Image.{home_at, home_words, place_of, slot_at, ceiling_of}
 use Rattle.desk.specs.Desk.{copied_rec, session_at, is_active, idle_session, with_phase}
@@ -17,7 +18,7 @@ use Rattle.desk.specs.declared.state.Phase.TheVariants.{Idle, Active, Sealed, Pu
 use Rattle.desk.specs.declared.state.Session.{Session}
 use Rattle.desk.specs.declared.state.Desk.{Desk}
 use Rattle.commit.specs.Finish.{finish_fault, finish_entries, seal_entries, finish_refused, finish_done, finish_reply}
-use Rattle.commit.specs.declared.finishing.FinishReply.{FinishReply}
+use Rattle.desk.specs.declared.reply.StoringReply.{StoringReply}
 use Rattle.commit.specs.Told.{finish_told}
 use Rattle.history.specs.Call.{finish}
 use Rattle.history.specs.Desk.{Copy, spot, words_at}
@@ -28,6 +29,7 @@ use Rattle.history.proofs.Copies.{Mem, at_mem}
 use Rattle.history.proofs.HeldHome.{held-home}
 use Rattle.history.proofs.Kept.{Holds}
 use Rattle.claims.proofs.Abstraction.{txn-of, copies_of, length_front, abs, abs-put}
+use Rattle.claims.proofs.Causes.{tells-cause}
 use Rattle.claims.proofs.Simulation.{Sim, Ready}
 use Rattle.claims.proofs.Entering.{session-there}
 use Rattle.claims.proofs.SimulateChecks.{Checked, Does, does-refuse, past-four, fits, count-is}
@@ -38,13 +40,13 @@ abbrev finish-call : List ℕ → (d : Desk) (f : ℕ → ℕ) → ℕ → ℕ �
 finish-call img d f len s =
     record {
       call = finish len s;
-      Gives = FinishReply;
+      Gives = StoringReply (Option ℕ);
       tells = λ r. finish_told r.answer;
       left = λ r. r.desk;
       refused = finish_refused d;
       done = finish_done img d s;
       listed = cond (eqb (session_at d s).count 0) [] (seal_entries img d s);
-      refuses = λ k. refl;
+      refuses = tells-cause;
       keeps = λ k. refl;
       notes = λ k. refl;
     }
@@ -93,17 +95,17 @@ module _ (N M : ℕ) (img : List ℕ) (d : Desk) (f : ℕ → ℕ) (k : History)
             stored = rw z at (seal-entries b i);
             desk = rw i (abs-put d d.clock d.n d.m s (with_phase e (Sealed d.clock)) d.holders (session-there N M img d h s l));
           })
-      go some (no n) = rw (some, le-ltb d.clock limit (omega arith), le-leb limit d.clock (omega arith)) (does-refuse d f (finish-call img d f len s) 9)
+      go some (no n) = rw (some, le-ltb d.clock limit (omega arith), le-leb limit d.clock (omega arith)) (does-refuse d f (finish-call img d f len s) 9 (omega arith))
 
   -- by the session's phase
   by-phase : (p : Phase) → e.phase ≡ p
       → Does d f (finish-call img d f len s) (first (unless (is_active p) 6) (unless (eqb e.count 0 || ltb d.clock limit) 10))
       (finishes d.n k d.clock s (txn-of p e.slot (copies_of e)))
   unfolding first
-  by-phase Idle i = does-refuse d f (finish-call img d f len s) 5
+  by-phase Idle i = does-refuse d f (finish-call img d f len s) 5 (omega arith)
   by-phase (Active b) i = seals b i (copies_of e) refl
-  by-phase (Sealed n) i = does-refuse d f (finish-call img d f len s) 5
-  by-phase (Published n) i = does-refuse d f (finish-call img d f len s) 5
+  by-phase (Sealed n) i = does-refuse d f (finish-call img d f len s) 5 (omega arith)
+  by-phase (Published n) i = does-refuse d f (finish-call img d f len s) 5 (omega arith)
 
 pub finish-sim : (N M : ℕ) (img : List ℕ) (d : Desk) (f : ℕ → ℕ) (k : History) (len s : ℕ) → Ready N M img d → Holds N M img (abs d) k
     → Sim (finish len s) f d (finish_told (finish_reply img d len s).answer) (finish_entries img d len s) (finish_reply img d len s).desk

@@ -20,7 +20,7 @@ use Rattle.desk.specs.Told.{publish_told}
 use Rattle.desk.specs.declared.state.Phase.{Phase}
 use Rattle.desk.specs.declared.state.Phase.TheVariants.{Idle, Active, Sealed, Published}
 use Rattle.desk.specs.declared.state.Desk.{Desk}
-use Rattle.desk.specs.declared.publish.PublishReply.{PublishReply}
+use Rattle.desk.specs.declared.reply.StoringReply.{StoringReply}
 use Rattle.desk.proofs.Facts.{says-coherent}
 use Rattle.desk.proofs.GroupDesk.{loaded, grouped-at}
 use Rattle.history.specs.Call.{group}
@@ -29,6 +29,7 @@ use Rattle.history.specs.Due.{refuse, is_sealed as is_sealed_txn, low_in, sealed
 use Rattle.history.specs.History.{History}
 use Rattle.history.specs.Ledger.{ended_with, ended_all}
 use Rattle.claims.proofs.Abstraction.{abs, pack, copies_of, txn-of}
+use Rattle.claims.proofs.Causes.{tells-cause}
 use Rattle.claims.proofs.Simulation.{Sim, Ready}
 use Rattle.claims.proofs.SimulateChecks.{Checked, Does, does-refuse}
 
@@ -36,13 +37,13 @@ abbrev group-call : (img : List ℕ) (d : Desk) (f : ℕ → ℕ) (len set : ℕ
 group-call img d f len set =
     record {
       call = group len set;
-      Gives = PublishReply;
-      tells = λ (r : PublishReply). publish_told r.answer;
-      left = λ (r : PublishReply). r.desk;
+      Gives = StoringReply ℕ;
+      tells = λ (r : StoringReply ℕ). publish_told r.answer;
+      left = λ (r : StoringReply ℕ). r.desk;
       refused = publish_refused d;
       done = grouped img d set;
       listed = pass_entries img (d.clock + 1);
-      refuses = λ k. refl;
+      refuses = tells-cause;
       keeps = λ k. refl;
       notes = λ k. refl;
     }
@@ -94,9 +95,9 @@ module _ (N M : ℕ) (img : List ℕ) (d : Desk) (f : ℕ → ℕ) (len set : �
       go : (some : Bool) → any_below 16 (λ s. member s set) ≡ some → (low : Bool) → all_below 16 (member_low d set) ≡ low → (ready : Bool) → all_below 16 (member_sealed d set) ≡ ready
           → Does d f (group-call img d f len set) (first (unless some 19) (first (unless low 4) (unless ready 6)))
           (cond some (cond low (cond ready (ends d.clock (ceiling_of img)) (refuse 6)) (refuse 4)) (refuse 19))
-      go false a low b ready c = does-refuse d f (group-call img d f len set) 18
-      go true a false b ready c = does-refuse d f (group-call img d f len set) 3
-      go true a true b false c = does-refuse d f (group-call img d f len set) 5
+      go false a low b ready c = does-refuse d f (group-call img d f len set) 18 (omega arith)
+      go true a false b ready c = does-refuse d f (group-call img d f len set) 3 (omega arith)
+      go true a true b false c = does-refuse d f (group-call img d f len set) 5 (omega arith)
       go true a true b true c =
           record {
             answers = rw add-one;
@@ -111,5 +112,5 @@ unfolding group_reply group_entries group_fault first
 group-sim N M img d f k len set h = room (dec_lt len 48)
   where
     room : Dec (len < 48) → Does d f (group-call img d f len set) (first (store_fault img d len) (set_fault d set)) (if_room len (groups M (ceiling_of img) (abs d) set))
-    room (yes l) = rw (store-fault N M img d f len set h, lt-leb 48 len l) (does-refuse d f (group-call img d f len set) 2)
+    room (yes l) = rw (store-fault N M img d f len set h, lt-leb 48 len l) (does-refuse d f (group-call img d f len set) 2 (omega arith))
     room (no n) = rw (store-fault N M img d f len set h, le-leb 48 len (omega arith)) (does N M img d f len set h)

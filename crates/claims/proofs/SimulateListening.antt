@@ -9,27 +9,30 @@ use native.Mathlib.Numerals.{add-one}
 use lib.Dec.{leb, ltb, eqb}
 use lib.ListN.{length, get_or}
 use borrow.Author.Tests.{leb-false, eq-eqb, ne_eqb, lt-ltb, le-ltb, ltb-true}
+use Rattle.std.specs.Prelude.{Option}
 use Rattle.layout.specs.Image.{ceiling_of}
 use Rattle.layout.specs.Below.{lowest}
 use Rattle.layout.specs.Checks.{unless, first, answered, room_for}
 use Rattle.layout.specs.Entries.{Entry}
+use Rattle.layout.specs.Refusal.{cause}
 use Rattle.layout.specs.Told.{Told, refusal, is_refusal, words_told}
 use Rattle.layout.proofs.Says.{by-test}
 use Rattle.desk.specs.Desk.{session_at, is_active, idle_session}
 use Rattle.desk.specs.Entering.{image_fault}
 use Rattle.desk.specs.Told.{begin_told}
 use Rattle.desk.specs.Begin.{begin_reply}
+use Rattle.desk.specs.declared.reply.Reply.{Reply}
+use Rattle.desk.specs.declared.reply.StoringReply.{StoringReply}
 use Rattle.desk.specs.declared.state.Phase.{Phase}
 use Rattle.desk.specs.declared.state.Phase.TheVariants.{Idle, Active, Sealed, Published}
 use Rattle.desk.specs.declared.state.Session.{Session}
 use Rattle.desk.specs.declared.state.Desk.{Desk}
 use Rattle.snapshot.specs.Read.{read_fault, read_refused, read_done}
 use Rattle.snapshot.specs.Told.{read_told}
-use Rattle.snapshot.specs.declared.reading.ReadReply.{ReadReply}
+use Rattle.snapshot.specs.declared.seeing.Sight.{Sight}
 use Rattle.snapshot.proofs.ToldLaws.{read-done}
 use Rattle.commit.specs.Finish.{finish_refused, finish_done}
 use Rattle.commit.specs.Told.{finish_told}
-use Rattle.commit.specs.declared.finishing.FinishReply.{FinishReply}
 use Rattle.reels.specs.Reel.{shelf_b}
 use Rattle.listening.specs.Listener.{no_copies, listener_fault}
 use Rattle.listening.specs.Read.{listen_read_fault, listen_read_reply}
@@ -45,6 +48,7 @@ use Rattle.history.proofs.Kept.{Holds}
 use Rattle.claims.specs.Demands.{SameLooks}
 use Rattle.claims.specs.Rules.{find_looks}
 use Rattle.claims.proofs.Abstraction.{abs, copies_of, txn-of, abs-put}
+use Rattle.claims.proofs.Causes.{tells-cause}
 use Rattle.claims.proofs.Simulation.{Sim, Ready}
 use Rattle.claims.proofs.Entering.{image-check, record-check, session-there, told}
 use Rattle.claims.proofs.SimulateChecks.{Checked, Does, does-refuse, past-four, count-is}
@@ -108,13 +112,13 @@ module _ (N M : ℕ) (img : List ℕ) (d : Desk) (f : ℕ → ℕ) (hist : Histo
     finish-call =
         record {
           call = listen (Finish len s);
-          Gives = FinishReply;
+          Gives = StoringReply (Option ℕ);
           tells = λ r. finish_told r.answer;
           left = λ r. r.desk;
           refused = finish_refused d;
           done = finish_done img d s;
           listed = [];
-          refuses = λ k. refl;
+          refuses = tells-cause;
           keeps = λ k. refl;
           notes = λ k. refl;
         }
@@ -122,13 +126,13 @@ module _ (N M : ℕ) (img : List ℕ) (d : Desk) (f : ℕ → ℕ) (hist : Histo
     finish-by : s < M → (p : Phase) (cs : List TxnCopy) → copies_of e ≡ cs
         → Does d f finish-call (first (unless (is_active p) 6) (unless (no_copies d s) 18)) (leaves (txn-of p e.slot cs))
     unfolding first answered
-    finish-by l Idle cs z = does-refuse d f finish-call 5
+    finish-by l Idle cs z = does-refuse d f finish-call 5 (omega arith)
     finish-by l (Active b) [] z =
         rw (bare l [] z)
         (record { answers = refl; stored = refl; desk = abs-put d d.clock d.n d.m s idle_session d.holders (session-there N M img d h s l) })
-    finish-by l (Active b) (c ∷ cs) z = rw (bare l (c ∷ cs) z) (does-refuse d f finish-call 17)
-    finish-by l (Sealed n) cs z = does-refuse d f finish-call 5
-    finish-by l (Published n) cs z = does-refuse d f finish-call 5
+    finish-by l (Active b) (c ∷ cs) z = rw (bare l (c ∷ cs) z) (does-refuse d f finish-call 17 (omega arith))
+    finish-by l (Sealed n) cs z = does-refuse d f finish-call 5 (omega arith)
+    finish-by l (Published n) cs z = does-refuse d f finish-call 5 (omega arith)
 
     pub listen-finish-sim : Sim (listen (Finish len s)) f d (finish_told (listen_finish_reply img d len s).answer) [] (listen_finish_reply img d len s).desk
         (due_of N M f (ceiling_of img) (abs d) hist (listen (Finish len s)))
@@ -142,19 +146,19 @@ module _ (N M : ℕ) (img : List ℕ) (d : Desk) (f : ℕ → ℕ) (hist : Histo
   module _ (H : Holds N M img (abs d) hist) where
     -- what an active session without copies reads
     heard : s < M → (b : ℕ) → e.phase ≡ Active b → copies_of e ≡ [] → (r : ℕ) → r < N
-        → Sim (read s r) f d (read_told (read_done img d s r).answer (read_done img d s r).words) [] (read_done img d s r).desk
+        → Sim (read s r) f d (read_told (read_done img d s r).answer) [] (read_done img d s r).desk
         (reads_other (shown_by b (abs d) (holder M (abs d) r)) (view_at hist b r))
     heard l b i z r lr = rw z at (reads-active N M img d s r f hist h H l lr b i)
 
     module _ (r : ℕ) where
-      abbrev ReadSim : ReadReply → Due → Type 0
-      ReadSim x y = Sim (listen (Read s r)) f d (read_told x.answer x.words) [] x.desk y
+      abbrev ReadSim : Reply Sight → Due → Type 0
+      ReadSim x y = Sim (listen (Read s r)) f d (read_told x.answer) [] x.desk y
 
-      as-heard : (x : ReadReply) (y : Due) → Sim (read s r) f d (read_told x.answer x.words) [] x.desk y → ReadSim x y
+      as-heard : (x : Reply Sight) (y : Due) → Sim (read s r) f d (read_told x.answer) [] x.desk y → ReadSim x y
       as-heard x y a = record { answers = a.answers; stored = a.stored; desk = a.desk }
 
       pub listen-read-sim : ReadSim (listen_read_reply img d s r) (due_of N M f (ceiling_of img) (abs d) hist (listen (Read s r)))
-      unfolding listen_read_reply listen_read_fault read_fault answered first
+      unfolding listen_read_reply listen_read_fault read_fault answered first cause
       listen-read-sim =
           rw (image-check N M img d h s, record-check N M img d h r) (go (leb M s) (leb N r) (leb-false M s) (leb-false N r) e.phase refl (copies_of e) refl)
         where
@@ -181,9 +185,9 @@ module _ (N M : ℕ) (img : List ℕ) (d : Desk) (f : ℕ → ℕ) (hist : Histo
         sim : Sim (listen (Find s k)) f d (find_told (answered j (find_refused d) (find_done img d s k)).answer) [] (answered j (find_refused d) (find_done img d s k)).desk y
         looks : SameLooks (answered j (λ i. no_looks) looks-done) (cond (is_refusal y.answer) no_looks x)
 
-      turned : (j : ℕ) (x : Looks) → FindSim (suc j) (refuse (suc j)) x
+      turned : (j : ℕ) → j < 20 → (x : Looks) → FindSim (suc j) (refuse (suc j)) x
       unfolding answered
-      turned j x = record { sim = told (listen (Find s k)) f d (refusal (suc j)) refl; looks = record { number = refl; gives = λ r l. refl } }
+      turned j l x = record { sim = rw (tells-cause j l) (told (listen (Find s k)) f d (refusal (suc j)) refl); looks = record { number = refl; gives = λ r l. refl } }
 
       module _ (l : s < M) (b : ℕ) (i : e.phase ≡ Active b) (z : copies_of e ≡ []) where
         -- each record gives what is due of a read
@@ -229,13 +233,13 @@ module _ (N M : ℕ) (img : List ℕ) (d : Desk) (f : ℕ → ℕ) (hist : Histo
               → FindSim (first (unless shelved 15) (first (cond over 4 0) (first (unless (is_active p) 6) (unless (no_copies d s) 18))))
               (cond shelved (cond over (refuse 4) (searches N hist k (txn-of p e.slot cs))) (refuse 15))
               (looks_of N M (abs d) hist k (txn-of p e.slot cs))
-          go false over b p i cs z = turned 14 _
-          go true true b p i cs z = turned 3 _
-          go true false b Idle i cs z = turned 5 _
+          go false over b p i cs z = turned 14 (omega arith) _
+          go true true b p i cs z = turned 3 (omega arith) _
+          go true false b Idle i cs z = turned 5 (omega arith) _
           go true false b (Active n) i [] z = rw (bare (b refl) [] z) (found (b refl) n i z)
-          go true false b (Active n) i (x ∷ cs) z = rw (bare (b refl) (x ∷ cs) z) (turned 17 _)
-          go true false b (Sealed n) i cs z = turned 5 _
-          go true false b (Published n) i cs z = turned 5 _
+          go true false b (Active n) i (x ∷ cs) z = rw (bare (b refl) (x ∷ cs) z) (turned 17 (omega arith) _)
+          go true false b (Sealed n) i cs z = turned 5 (omega arith) _
+          go true false b (Published n) i cs z = turned 5 (omega arith) _
 
       pub find-told-sim : Sim (listen (Find s k)) f d (find_told (find_reply img d s k).answer) [] (find_reply img d s k).desk (due_of N M f (ceiling_of img) (abs d) hist (listen (Find s k)))
       unfolding find_reply

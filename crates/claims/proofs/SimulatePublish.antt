@@ -4,6 +4,7 @@ use mathlib.Core.Bool.{cond}
 use mathlib.Core.Path.{◌≡◌, refl, sym, ap, ◌∙◌, fun_ext}
 use mathlib.Core.List.{List}
 use native.Mathlib.Numerals.{add-one}
+use native.Mathlib.Omega.{arith}
 use lib.Dec.{eqb}
 use borrow.Author.Tests.{eqb-true}
 use Rattle.layout.proofs.Says.{by-test}
@@ -17,13 +18,14 @@ use Rattle.desk.specs.declared.state.Phase.{Phase}
 use Rattle.desk.specs.declared.state.Phase.TheVariants.{Idle, Active, Sealed, Published}
 use Rattle.desk.specs.declared.state.Session.{Session}
 use Rattle.desk.specs.declared.state.Desk.{Desk}
-use Rattle.desk.specs.declared.publish.PublishReply.{PublishReply}
+use Rattle.desk.specs.declared.reply.StoringReply.{StoringReply}
 use Rattle.history.specs.Call.{publish}
 use Rattle.history.specs.Desk.{Session as Txn, Desk as Txns, upd, with_session}
 use Rattle.history.specs.Due.{publishes, due_of}
 use Rattle.history.specs.History.{History}
 use Rattle.history.specs.Ledger.{ended_with, ticked, ended_all}
 use Rattle.claims.proofs.Abstraction.{abs, copies_of, txn-of, abs-put}
+use Rattle.claims.proofs.Causes.{tells-cause}
 use Rattle.claims.proofs.Entering.{session-there}
 use Rattle.claims.proofs.Simulation.{Sim, Ready}
 use Rattle.claims.proofs.SimulateChecks.{Checked, Does, does-refuse, past-four}
@@ -40,13 +42,13 @@ abbrev publish-call : (img : List ℕ) (d : Desk) (f : ℕ → ℕ) (len s : ℕ
 publish-call img d f len s =
     record {
       call = publish len s;
-      Gives = PublishReply;
-      tells = λ (r : PublishReply). publish_told r.answer;
-      left = λ (r : PublishReply). r.desk;
+      Gives = StoringReply ℕ;
+      tells = λ (r : StoringReply ℕ). publish_told r.answer;
+      left = λ (r : StoringReply ℕ). r.desk;
       refused = publish_refused d;
       done = published img d s;
       listed = pass_entries img (d.clock + 1);
-      refuses = λ k. refl;
+      refuses = tells-cause;
       keeps = λ k. refl;
       notes = λ k. refl;
     }
@@ -59,8 +61,8 @@ module _ (N M : ℕ) (img : List ℕ) (d : Desk) (f : ℕ → ℕ) (len s : ℕ)
   by-phase : (p : Phase) → e.phase ≡ p
       → Does d f (publish-call img d f len s) (unless (is_sealed p) 6) (publishes d.clock (ceiling_of img) (txn-of p e.slot (copies_of e)))
   unfolding answered
-  by-phase Idle i = does-refuse d f (publish-call img d f len s) 5
-  by-phase (Active b) i = does-refuse d f (publish-call img d f len s) 5
+  by-phase Idle i = does-refuse d f (publish-call img d f len s) 5 (omega arith)
+  by-phase (Active b) i = does-refuse d f (publish-call img d f len s) 5 (omega arith)
   by-phase (Sealed n) i =
       record {
         answers = rw add-one;
@@ -70,7 +72,7 @@ module _ (N M : ℕ) (img : List ℕ) (d : Desk) (f : ℕ → ℕ) (len s : ℕ)
             (abs-put d (suc d.clock) d.n d.m s (with_phase e (Published (suc d.clock))) d.holders (session-there N M img d h s l)
             ∙ one_ended s _ (suc d.clock) (ticked (abs d)) (rw i refl));
       }
-  by-phase (Published n) i = does-refuse d f (publish-call img d f len s) 5
+  by-phase (Published n) i = does-refuse d f (publish-call img d f len s) 5 (omega arith)
 
 pub publish-sim : (N M : ℕ) (img : List ℕ) (d : Desk) (f : ℕ → ℕ) (k : History) (len s : ℕ) → Ready N M img d
     → Sim (publish len s) f d (publish_told (publish_reply img d len s).answer) (publish_entries img d len s) (publish_reply img d len s).desk

@@ -1,6 +1,6 @@
 -- Read gives what is due: the words that it finds are the history's.
 use Prim.Native.Nat.{ℕ, zero, suc, ◌-◌, ◌<◌}
-use mathlib.Core.Path.{◌≡◌, refl, sym, ◌∙◌, subst}
+use mathlib.Core.Path.{◌≡◌, refl, sym, ap, ◌∙◌, subst}
 use mathlib.Core.Bool.{Bool, true, false, cond, not, ◌&&◌}
 use mathlib.Core.List.{List, []}
 use native.Mathlib.Omega.{arith}
@@ -10,17 +10,19 @@ use Rattle.layout.specs.Checks.{unless, first, answered}
 use Rattle.layout.specs.Image.{home_words, ceiling_of}
 use Rattle.layout.proofs.Says.{by-test}
 use Rattle.desk.specs.Desk.{session_at, mark_at, copy_at, is_active, start_of}
+use Rattle.desk.specs.declared.reply.Reply.{Reply}
 use Rattle.desk.specs.declared.state.Phase.{Phase}
 use Rattle.desk.specs.declared.state.Phase.TheVariants.{Idle, Active, Sealed, Published}
 use Rattle.desk.specs.declared.state.Session.{Session}
 use Rattle.desk.specs.declared.state.Desk.{Desk}
 use Rattle.desk.proofs.Facts.{Copies}
 use Rattle.snapshot.specs.Own.{own_place}
-use Rattle.snapshot.specs.Read.{read_fault, shown_at, holder_entry, read_gives, read_refused, read_done, read_reply}
-use Rattle.snapshot.specs.declared.reading.ReadReply.{ReadReply}
-use Rattle.snapshot.specs.declared.reading.ReadAnswer.TheVariants.{Copy, Home}
+use Rattle.snapshot.specs.Read.{read_fault, shown_at, holder_entry, sight, read_gives, read_refused, read_done, read_reply}
+use Rattle.snapshot.specs.declared.seeing.Sight.{Sight}
+use Rattle.snapshot.specs.declared.seeing.Source.TheVariants.{Copy, Home}
 use Rattle.snapshot.proofs.OwnPlace.{own-found}
 use Rattle.snapshot.proofs.ReadLaws.{seen_done, sight-read}
+use Rattle.layout.specs.Refusal.{cause}
 use Rattle.layout.specs.Told.{Told, refusal, own}
 use Rattle.snapshot.specs.Told.{read_told}
 use Rattle.history.specs.Call.{read}
@@ -41,16 +43,16 @@ module _ (N M : ℕ) (img : List ℕ) (d : Desk) (s r : ℕ) (f : ℕ → ℕ) (
   e = session_at d s
 
   -- what is read from a holder whose copy is shown, or is not
-  abbrev gives : Session → Bool → ReadReply
-  gives o x = cond x (read_gives d Copy (copy_at o (own_place o r)).words) (read_gives d Home (home_words img r))
+  abbrev gives : Session → Bool → Reply Sight
+  gives o x = cond x (read_gives d (sight Copy (copy_at o (own_place o r)).words)) (read_gives d (sight Home (home_words img r)))
 
   -- what is due of a reply
-  abbrev ReadSim : ReadReply → Due → Type 0
-  ReadSim x y = Sim (read s r) f d (read_told x.answer x.words) [] x.desk y
+  abbrev ReadSim : Reply Sight → Due → Type 0
+  ReadSim x y = Sim (read s r) f d (read_told x.answer) [] x.desk y
 
   -- what a reply tells
-  abbrev tells : ReadReply → Told
-  tells x = read_told x.answer x.words
+  abbrev tells : Reply Sight → Told
+  tells x = read_told x.answer
 
   -- a session that copies the record: its copy is read if it is published in time, else the home record
   by-holder : (t : ℕ) → t < 16 → Copies (session_at d t) r → (b : ℕ) (p : Phase)
@@ -91,7 +93,7 @@ module _ (N M : ℕ) (img : List ℕ) (d : Desk) (s r : ℕ) (f : ℕ → ℕ) (
       (λ y. rw (y, find-own e r four (ltb-true (own_place e r) 4 y)) (told (read s r) f d (own _) refl))
       (λ n.
       let none = ltb-false (own_place e r) 4 n in
-      subst (λ (x : ReadReply). ReadSim x (reads_own (find r (copies_of e)) other)) (sym (seen_done img d s r none ∙ sight-read img d (start_of e.phase) r))
+      subst (λ (x : Reply Sight). ReadSim x (reads_own (find r (copies_of e)) other)) (sym (ap (read_gives d) (seen_done img d s r none) ∙ sight-read img d (start_of e.phase) r))
       (rw (find-fresh r (copies_of e) (own-none e r four none), i)
       (stays (not (eqb (mark_at d r) 0) && shown_at b (holder_entry d r).phase) (holder_entry d r) _
       (by-mark lr b (mark_at d r) refl ∙ (rw (← (holder-named N M img d h r lr)) (read-due N M img (abs d) k H b r s e.slot (copies_of e) l lr (rw i refl))))
@@ -103,7 +105,7 @@ module _ (N M : ℕ) (img : List ℕ) (d : Desk) (s r : ℕ) (f : ℕ → ℕ) (
 
   -- read gives the same words, and changes nothing
   pub read-sim : ReadSim (read_reply img d s r) (due_of N M f (ceiling_of img) (abs d) k (read s r))
-  unfolding read_reply read_fault answered first
+  unfolding read_reply read_fault answered first cause
   read-sim = rw (image-check N M img d h s, record-check N M img d h r) (go (leb M s) (leb N r) (leb-false M s) (leb-false N r) e.phase refl)
     where
       go : (over past : Bool) → (over ≡ false → s < M) → (past ≡ false → r < N) → (p : Phase) → e.phase ≡ p

@@ -22,8 +22,9 @@ use Rattle.desk.specs.declared.state.Session.{Session}
 use Rattle.desk.specs.declared.state.Desk.{Desk}
 use Rattle.desk.specs.Entering.{image_fault}
 use Rattle.layout.specs.Checks.{room_for}
+use Rattle.desk.specs.declared.reply.StoringReply.{StoringReply}
 use Rattle.commit.specs.Reclaim.{reclaim_fault, reclaim_entries, in_use, settled_number, chosen, none_left, held_b, clear_entries, reclaim_refused, reclaim_done, reclaim_reply}
-use Rattle.commit.specs.declared.reclaiming.ReclaimReply.{ReclaimReply}
+use Rattle.commit.specs.declared.reclaiming.Reclaimed.{Reclaimed}
 use Rattle.layout.specs.Told.{nothing, held}
 use Rattle.commit.specs.Told.{reclaim_told}
 use Rattle.history.specs.Call.{reclaim}
@@ -34,6 +35,7 @@ use Rattle.history.specs.Layout.{view}
 use Rattle.history.specs.Ledger.{free, choice, candidate}
 use Rattle.history.proofs.KeptReclaim.{smallest-below, smallest-among}
 use Rattle.claims.proofs.Abstraction.{txn-of, copies_of, pack, abs}
+use Rattle.claims.proofs.Causes.{tells-cause}
 use Rattle.claims.proofs.Simulation.{Sim, Ready}
 use Rattle.claims.proofs.Entering.{told as says-only}
 use Rattle.claims.proofs.SimulateChecks.{Checked, Does, past-four}
@@ -101,13 +103,13 @@ abbrev reclaim-call : List ℕ → (d : Desk) (f : ℕ → ℕ) → ℕ → ℕ 
 reclaim-call img d f len s =
     record {
       call = reclaim len s;
-      Gives = ReclaimReply;
+      Gives = StoringReply Reclaimed;
       tells = λ r. reclaim_told r.answer;
       left = λ r. r.desk;
       refused = reclaim_refused d;
       done = reclaim_done img d s;
       listed = cond (none_left img d s) [] (cond (held_b img d s) [] (clear_entries img d s));
-      refuses = λ k. refl;
+      refuses = tells-cause;
       keeps = λ k. refl;
       notes = λ k. refl;
     }

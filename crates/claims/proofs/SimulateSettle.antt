@@ -9,6 +9,7 @@ use native.Mathlib.Decide.{ℕ_discrete, dec_lt}
 use native.Mathlib.Omega.{arith}
 use lib.Dec.{T as So, T_not, ltb}
 use borrow.Author.Tests.{eq-eqb, ne_eqb, ltb-true, ltb-false, not-true}
+use Rattle.std.specs.Prelude.{Option as Answered}
 use Rattle.layout.specs.Image.{ceiling_of}
 use Rattle.layout.specs.Below.{any_below}
 use Rattle.layout.specs.Oldest.{oldest_of}
@@ -25,7 +26,7 @@ use Rattle.desk.specs.declared.state.Session.{Session}
 use Rattle.desk.specs.declared.state.Desk.{Desk}
 use Rattle.desk.proofs.Facts.{NumberIn}
 use Rattle.commit.specs.Settle.{settle_fault, settle_entries, end_of, start_below, oldest_reader, waits_b, go_home_entries, settle_refused, settle_done, settle_reply}
-use Rattle.commit.specs.declared.settling.SettleReply.{SettleReply}
+use Rattle.desk.specs.declared.reply.StoringReply.{StoringReply}
 use Rattle.layout.specs.Told.{wait}
 use Rattle.commit.specs.Told.{settle_told}
 use Rattle.history.specs.Call.{settle}
@@ -34,6 +35,7 @@ use Rattle.history.specs.Due.{settles, waits, due_of}
 use Rattle.history.specs.History.{History}
 use Rattle.history.proofs.Copies.{Lowest, first_of?}
 use Rattle.claims.proofs.Abstraction.{txn-of, copies_of, pack, abs, abs-put}
+use Rattle.claims.proofs.Causes.{tells-cause}
 use Rattle.claims.proofs.Simulation.{Sim, Ready}
 use Rattle.claims.proofs.Entering.{session-small, session-there, told as says-only}
 use Rattle.claims.proofs.SimulateChecks.{Checked, Does, does-refuse, past-four, fits}
@@ -179,13 +181,13 @@ abbrev settle-call : (d : Desk) (f : ℕ → ℕ) → ℕ → ℕ → Checked d 
 settle-call d f len s =
     record {
       call = settle len s;
-      Gives = SettleReply;
+      Gives = StoringReply (Answered ℕ);
       tells = λ r. settle_told r.answer;
       left = λ r. r.desk;
       refused = settle_refused d;
       done = settle_done d s;
       listed = cond (waits_b d s) [] (go_home_entries d s);
-      refuses = λ k. refl;
+      refuses = tells-cause;
       keeps = λ k. refl;
       notes = λ k. refl;
     }
@@ -214,9 +216,9 @@ module _ (N M : ℕ) (img : List ℕ) (d : Desk) (f : ℕ → ℕ) (len s : ℕ)
 
   -- by the session's phase
   by-phase : (p : Phase) → e.phase ≡ p → Does d f (settle-call d f len s) (unless (is_published p) 6) (settles M (abs d) (txn-of p e.slot (copies_of e)))
-  by-phase Idle z = does-refuse d f (settle-call d f len s) 5
-  by-phase (Active b) z = does-refuse d f (settle-call d f len s) 5
-  by-phase (Sealed n) z = does-refuse d f (settle-call d f len s) 5
+  by-phase Idle z = does-refuse d f (settle-call d f len s) 5 (omega arith)
+  by-phase (Active b) z = does-refuse d f (settle-call d f len s) 5 (omega arith)
+  by-phase (Sealed n) z = does-refuse d f (settle-call d f len s) 5 (omega arith)
   by-phase (Published end) z = settled (awaited M (abs d) end) (waits-agree end z)
 
 pub settle-sim : (N M : ℕ) (img : List ℕ) (d : Desk) (f : ℕ → ℕ) (k : History) (len s : ℕ) → Ready N M img d

@@ -10,10 +10,12 @@ use native.Mathlib.Numerals.{add-one}
 use lib.ListN.{length, set}
 use lib.Dec.{leb, ltb, eqb}
 use borrow.Author.Tests.{leb-false, ltb-true, ltb-false, le-leb, eq-eqb, ne_eqb}
+use Rattle.std.specs.Prelude.{⊤, Ok}
 use Rattle.layout.specs.Below.{lowest}
 use Rattle.layout.specs.Checks.{unless, first, answered}
 use Rattle.layout.proofs.Says.{by-test}
 use Rattle.desk.specs.Desk.{session_at, mark_at, is_active, put_session}
+use Rattle.desk.specs.declared.reply.Reply.{Reply}
 use Rattle.desk.specs.declared.state.Phase.{Phase}
 use Rattle.desk.specs.declared.state.Phase.TheVariants.{Idle, Active, Sealed, Published}
 use Rattle.desk.specs.declared.state.Session.{Session}
@@ -21,9 +23,8 @@ use Rattle.desk.specs.declared.state.Desk.{Desk}
 use Rattle.desk.proofs.Copied.{copies-four}
 use Rattle.snapshot.specs.Own.{own_place}
 use Rattle.snapshot.specs.Write.{slot_empty, empty_slot, copy_fault, owns_b, write_fault, write_says, write_refused, overwritten, extended, reserved, copied, write_done, write_reply}
-use Rattle.snapshot.specs.declared.writing.WriteReply.{WriteReply}
-use Rattle.snapshot.specs.declared.writing.WriteAnswer.TheVariants.{Ok}
 use Rattle.layout.specs.Image.{place_of, ceiling_of}
+use Rattle.layout.specs.Refusal.{cause}
 use Rattle.layout.specs.Told.{refused, refusal, ok}
 use Rattle.snapshot.specs.Told.{write_told}
 use Rattle.history.specs.Call.{write}
@@ -80,7 +81,7 @@ module _ (N M : ℕ) (img : List ℕ) (d : Desk) (s r : ℕ) (ws : List ℕ) (k 
   f = (view N img).number
 
   -- what is due of a reply
-  abbrev WriteSim : WriteReply → Due → Type 0
+  abbrev WriteSim : Reply ⊤ → Due → Type 0
   WriteSim x y = Sim (write s r ws) f d (write_told x.answer) [] x.desk y
 
   -- the slot that a first copy reserves
@@ -88,8 +89,8 @@ module _ (N M : ℕ) (img : List ℕ) (d : Desk) (s r : ℕ) (ws : List ℕ) (k 
   free = empty_slot img d.n s
 
   -- a copy taken, or refused by k
-  abbrev copying : ℕ → WriteReply
-  copying k = answered k (write_refused d s r) (write_says (copied img d s r ws) Ok)
+  abbrev copying : ℕ → Reply ⊤
+  copying k = answered k (write_refused d s r) (write_says (copied img d s r ws) (Ok tt))
 
   -- a slot is empty on both sides or on none
   empty-in : (q : ℕ) → slot_empty img d.n s q ≡ eqb (f (place_of s q)) 0
@@ -136,7 +137,7 @@ module _ (N M : ℕ) (img : List ℕ) (d : Desk) (s r : ℕ) (ws : List ℕ) (k 
     adds-copy : mark_at d r ≡ 0 → Fresh r (copies_of e) → (cs : List Copy) → copies_of e ≡ cs
         → WriteSim (copying (copy_fault (mark_at d r) e.count free))
         (adds f s cs)
-    unfolding answered write_refused
+    unfolding answered write_refused cause
     adds-copy z z' [] c =
         rw (← empty-in 0, ← empty-in 1, fault-first (mark_at d r) e.count free (slot_empty img d.n s 0) (slot_empty img d.n s 1) z (counted [] c) (empty-slot img d.n s))
         (go (slot_empty img d.n s 0) (slot_empty img d.n s 1) (empty-slot img d.n s) (sym (empty-in 0)))
@@ -161,7 +162,7 @@ module _ (N M : ℕ) (img : List ℕ) (d : Desk) (s r : ℕ) (ws : List ℕ) (k 
     by-mark : Fresh r (copies_of e) → (n : ℕ) → mark_at d r ≡ n
         → WriteSim (copying (copy_fault (mark_at d r) e.count free))
         (writes_held f s (copies_of e) (marked n))
-    unfolding answered write_refused
+    unfolding answered write_refused cause
     by-mark z zero m = adds-copy m z (copies_of e) refl
     by-mark z (suc t) m =
         let names : mark_at d r - 1 ≡ t = omega arith in
@@ -181,7 +182,7 @@ module _ (N M : ℕ) (img : List ℕ) (d : Desk) (s r : ℕ) (ws : List ℕ) (k 
 
   -- write gives the same answer, and the same copies or none
   pub write-sim : WriteSim (write_reply img d s r ws) (due_of N M f (ceiling_of img) (abs d) k (write s r ws))
-  unfolding write_reply write_fault write_refused answered first
+  unfolding write_reply write_fault write_refused answered first cause
   write-sim = rw (image-check N M img d h s, record-check N M img d h r) (go (leb M s) (leb N r) (leb-false M s) (leb-false N r) e.phase refl)
     where
       go : (over past : Bool) → (over ≡ false → s < M) → (past ≡ false → r < N) → (p : Phase) → e.phase ≡ p

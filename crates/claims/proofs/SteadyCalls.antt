@@ -28,7 +28,6 @@ use Rattle.layout.specs.Checks.{room_for}
 use Rattle.recovery.specs.Open.{fresh_desk}
 use Rattle.snapshot.specs.Read.{read_fault, read_refused, read_done, read_reply}
 use Rattle.snapshot.specs.Write.{owns_b, write_fault, write_refused, write_done, write_reply}
-use Rattle.snapshot.proofs.ToldLaws.{read-done}
 use Rattle.commit.specs.Finish.{finish_fault, finish_refused, finish_done, finish_reply}
 use Rattle.commit.specs.Settle.{settle_fault, settle_refused, settle_done, waits_b, settle_reply}
 use Rattle.commit.specs.Reclaim.{reclaim_fault, reclaim_refused, reclaim_done, none_left, held_b, reclaim_reply}
@@ -211,7 +210,7 @@ listen-finish-kept img d len s h =
 
 -- read, with whatever checks, leaves the desk as it is
 done-desk : (img : List ℕ) (d : Desk) (s r k : ℕ) → (answered k (read_refused d) (read_done img d s r)).desk ≡ d
-done-desk img d s r k = by_answer (λ a. a.desk ≡ d) k (read_refused d) (read_done img d s r) refl (λ z. (read-done img d s r).leaves)
+done-desk img d s r k = by_answer (λ a. a.desk ≡ d) k (read_refused d) (read_done img d s r) refl (λ z. refl)
 
 pub read-desk : (img : List ℕ) (d : Desk) (s r : ℕ) → (read_reply img d s r).desk ≡ d
 unfolding read_reply

@@ -1,22 +1,20 @@
 -- Document 02, Req 05: what becomes of header word 3 on any image and desk, and in numbers what opening and publish do with it.
-use Rattle.std.specs.Prelude.{ℕ, ◌+◌, ◌-◌, Bool, ◌≡◌, List, [], ◌∷◌, set, replicate}
+use Rattle.std.specs.Prelude.{ℕ, ◌+◌, ◌-◌, Bool, ◌≡◌, List, [], ◌∷◌, set, replicate, None, Ok, Err}
 use Rattle.layout.specs.Crash.{crashed}
 use Rattle.layout.specs.Entries.{Entry, store, fence, made}
 use Rattle.layout.specs.Image.{ceiling_of, shaped_b}
 use Rattle.layout.specs.Lay.{empty_image, laid_image}
 use Rattle.layout.specs.Told.{Told, refusal}
+use Rattle.layout.specs.declared.refusal.Refusal.TheVariants.{Incoherent, WrongPhase}
 use Rattle.desk.specs.Coherent.{limit}
 use Rattle.desk.specs.Desk.{idle_session}
 use Rattle.desk.specs.Publish.{publish_entries, publish_reply}
-use Rattle.desk.specs.declared.publish.PublishAnswer.TheVariants.{Refused as Unpublished, End}
 use Rattle.desk.specs.declared.state.Phase.TheVariants.{Sealed}
 use Rattle.desk.specs.declared.state.Desk.{Desk}
 use Rattle.recovery.specs.Open.{open_reply, open_entries}
 use Rattle.recovery.specs.Recover.{recover_entries, recover_reply}
 use Rattle.recovery.specs.Told.{open_told}
-use Rattle.recovery.specs.declared.recovering.RecoverAnswer.TheVariants.{Clean}
 use Rattle.snapshot.specs.Read.{read_reply}
-use Rattle.snapshot.specs.declared.reading.ReadAnswer.TheVariants.{Refused}
 use Rattle.commit.specs.Finish.{finish_entries}
 use Rattle.commit.specs.Settle.{settle_entries}
 use Rattle.commit.specs.Reclaim.{reclaim_entries}
@@ -79,7 +77,7 @@ pub record Ceilings : Type 0 where
   pub at-limit : opening (with_ceiling limit) 48 ≡ refusal 10
   -- any word 3 will do for check 1: the largest gives 10 too, and recover takes it
   pub at_top : opening (with_ceiling top) 48 ≡ refusal 10
-  pub recover-top : (recover_reply (with_ceiling top) 48).answer ≡ Clean
+  pub recover-top : (recover_reply (with_ceiling top) 48).answer ≡ Ok None
   -- 10 after 11, 11 after 3, 3 after 1
   pub occupied : opening (occupied_with limit) 48 ≡ refusal 11
   pub short : opening (occupied_with limit) 47 ≡ refusal 3
@@ -88,11 +86,11 @@ pub record Ceilings : Type 0 where
   pub end_below : publish_stores 5000 3 ≡ []
   pub end-at : publish_stores 4 3 ≡ []
   pub end-above : publish_stores 3 3 ≡ store 3 1028 ∷ fence ∷ []
-  pub end-told : (publish_reply (with_ceiling 3) (sealed_desk 3) 48 0).answer ≡ End 4
+  pub end-told : (publish_reply (with_ceiling 3) (sealed_desk 3) 48 0).answer ≡ Ok 4
   pub end-counted : (publish_reply (with_ceiling 3) (sealed_desk 3) 48 0).entries ≡ 2
   -- at the largest clock of a coherent desk with a sealed session
   pub end-last : publish_stores (limit + 15) (limit + 15) ≡ store 3 (limit + 1040) ∷ fence ∷ []
   -- a clock above word 3 gives 2; at word 3 a read by an idle session gives 6
-  pub clock-above : (publish_reply (with_ceiling 2) (sealed_desk 3) 48 0).answer ≡ Unpublished 2
-  pub read_above : (read_reply (with_ceiling 2) (sealed_desk 3) 1 0).answer ≡ Refused 2
-  pub read-at : (read_reply (with_ceiling 3) (sealed_desk 3) 1 0).answer ≡ Refused 6
+  pub clock-above : (publish_reply (with_ceiling 2) (sealed_desk 3) 48 0).answer ≡ Err Incoherent
+  pub read_above : (read_reply (with_ceiling 2) (sealed_desk 3) 1 0).answer ≡ Err Incoherent
+  pub read-at : (read_reply (with_ceiling 3) (sealed_desk 3) 1 0).answer ≡ Err WrongPhase

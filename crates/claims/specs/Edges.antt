@@ -1,5 +1,5 @@
 -- Document 01, "At the edges": the thirteen lettered cases as one table.
-use Rattle.std.specs.Prelude.{ℕ, ◌+◌, ◌-◌, true, ◌≡◌, List, [], ◌∷◌, ◌++◌, set, replicate, take}
+use Rattle.std.specs.Prelude.{ℕ, ◌+◌, ◌-◌, true, ◌≡◌, List, [], ◌∷◌, ◌++◌, set, replicate, take, Some, None, Ok}
 use Rattle.layout.specs.Crash.{crashed}
 use Rattle.layout.specs.Image.{slot_at}
 use Rattle.layout.specs.Lay.{empty_image, lay_answer}
@@ -18,14 +18,13 @@ use Rattle.commit.specs.Finish.{finish_reply, finish_entries}
 use Rattle.commit.specs.Reclaim.{reclaim_reply}
 use Rattle.recovery.specs.Recover.{recover_reply}
 use Rattle.recovery.specs.Told.{open_told, recover_told}
+use Rattle.claims.specs.Refusals.{words_read}
 use Rattle.snapshot.specs.Told.{write_told}
 use Rattle.commit.specs.Told.{finish_told}
-use Rattle.snapshot.specs.declared.reading.ReadReply.{ReadReply}
-use Rattle.snapshot.specs.declared.reading.ReadAnswer.TheVariants.{Copy, Home}
-use Rattle.snapshot.specs.declared.writing.WriteAnswer.TheVariants.{Ok}
-use Rattle.commit.specs.declared.finishing.FinishAnswer.TheVariants.{Sealed as SealedAt}
-use Rattle.commit.specs.declared.reclaiming.ReclaimAnswer.TheVariants.{Held, Cleared}
-use Rattle.recovery.specs.declared.recovering.RecoverAnswer.TheVariants.{Clean, Replayed}
+use Rattle.desk.specs.declared.reply.Reply.{Reply}
+use Rattle.snapshot.specs.declared.seeing.Sight.{Sight}
+use Rattle.snapshot.specs.declared.seeing.Source.TheVariants.{Copy, Home}
+use Rattle.commit.specs.declared.reclaiming.Reclaimed.TheVariants.{Held, Cleared}
 
 -- a store of 8 records and 2 sessions, with word 3 high enough (document 02, Req 05)
 abbrev pub image : List ℕ
@@ -67,7 +66,7 @@ abbrev pub four_marks : List ℕ
 four_marks = 1 ∷ 1 ∷ 1 ∷ 1 ∷ []
 
 -- a reader with this start, of record 0, which session 0 has published with this end
-abbrev pub read_at : ℕ → ℕ → ReadReply
+abbrev pub read_at : ℕ → ℕ → Reply Sight
 read_at start end = read_reply image (desk_of 6 one_mark 1 (one_copy (Published end)) (no_copies (Active start))) 1 0
 
 -- session 0 finishes one copy at this clock, and power fails once the first k entries have arrived
@@ -101,29 +100,29 @@ pub record Edges : Type 0 where
   -- B: N 257 gives 14, though the length is wrong too
   pub b : lay_told (lay_answer 257 16 (replicate 1732 9)) ≡ refusal 14
   -- C: start 6, holder's end 6: copy; D: start 5, end 6: home
-  pub c-answer : (read_at 6 6).answer ≡ Copy
-  pub c-words : (read_at 6 6).words ≡ 5 ∷ 6 ∷ 7 ∷ 8 ∷ []
-  pub d-answer : (read_at 5 6).answer ≡ Home
-  pub d-words : (read_at 5 6).words ≡ replicate 4 0
+  pub c-answer : (read_at 6 6).answer ≡ Ok (record { source = Copy; words = 5 ∷ 6 ∷ 7 ∷ 8 ∷ [] })
+  pub c-words : words_read (read_at 6 6).answer ≡ 5 ∷ 6 ∷ 7 ∷ 8 ∷ []
+  pub d-answer : (read_at 5 6).answer ≡ Ok (record { source = Home; words = replicate 4 0 })
+  pub d-words : words_read (read_at 5 6).answer ≡ replicate 4 0
   -- E: four copies, write to a fifth record: 8; F: write again to one of the four: accepted
   pub e : write_told (write_reply image (desk_of 1 four_marks 0 four_copies idle_session) 0 4 (replicate 4 1)).answer ≡ refusal 8
-  pub f : (write_reply image (desk_of 1 four_marks 0 four_copies idle_session) 0 3 (replicate 4 1)).answer ≡ Ok
+  pub f : (write_reply image (desk_of 1 four_marks 0 four_copies idle_session) 0 3 (replicate 4 1)).answer ≡ Ok tt
   -- G: clock L - 1 seals; at L, 10
-  pub g-seals : (finish_reply image (finishing (limit - 1)) 48 0).answer ≡ SealedAt (limit - 1)
+  pub g-seals : (finish_reply image (finishing (limit - 1)) 48 0).answer ≡ Ok (Some (limit - 1))
   pub g-refused : finish_told (finish_reply image (finishing limit) 48 0).answer ≡ refusal 10
   pub g-limit : limit ≡ 4611686018427387904
   -- H: one copy, which differs from its home record in all four words (document 02, Req 08), 7 entries arrive: no log to replay; I: 8
   -- arrive: replayed
-  pub h : (recover_reply (cut_after 7) 48).answer ≡ Clean
-  pub i : (recover_reply (cut_after 8) 48).answer ≡ Replayed 3
+  pub h : (recover_reply (cut_after 7) 48).answer ≡ Ok None
+  pub i : (recover_reply (cut_after 8) 48).answer ≡ Ok (Some 3)
   -- the same of a copy that differs in one word: 6 entries in place of 9, of which 4 arrive, and 5
-  pub h-short : (recover_reply (cut_short 4) 48).answer ≡ Clean
-  pub i-short : (recover_reply (cut_short 5) 48).answer ≡ Replayed 3
+  pub h-short : (recover_reply (cut_short 4) 48).answer ≡ Ok None
+  pub i-short : (recover_reply (cut_short 5) 48).answer ≡ Ok (Some 3)
   pub hi-entries : (finish_reply image (finishing 3) 48 0).entries ≡ 9
   pub hi-short-entries : (finish_reply image editing 48 0).entries ≡ 6
   -- J: persist 5 settled, another slot at 4: held; K: another slot at 5: cleared
-  pub j : (reclaim_reply (settled 4) (fresh_desk 5 8 2) 48 0).answer ≡ Held 4
-  pub k : (reclaim_reply (settled 5) (fresh_desk 5 8 2) 48 0).answer ≡ Cleared 5
+  pub j : (reclaim_reply (settled 4) (fresh_desk 5 8 2) 48 0).answer ≡ Ok (Held 4)
+  pub k : (reclaim_reply (settled 5) (fresh_desk 5 8 2) 48 0).answer ≡ Ok (Cleared 5)
   -- M: count 5 with persist number 0 is ignored; N: with persist number 3 it gives 12
-  pub m : (recover_reply (with_slot 1 1 5 image) 48).answer ≡ Clean
+  pub m : (recover_reply (with_slot 1 1 5 image) 48).answer ≡ Ok None
   pub n : recover_told (recover_reply (with_slot 1 0 3 (with_slot 1 1 5 image)) 48).answer ≡ refused 12 1

@@ -1,18 +1,17 @@
 -- A reel that was written and is read back in the same transaction is the same reel (document 02, Req 02), and not marked; a good open
 -- reel without a speed, which the store alone can write, is read back marked (Req 07).
-use Rattle.std.specs.Prelude.{ℕ, Bool, true, false, not, ◌&&◌, ◌≡◌, List, [], ◌∷◌, eqb}
+use Rattle.std.specs.Prelude.{ℕ, Bool, true, false, not, ◌&&◌, ◌≡◌, List, [], ◌∷◌, eqb, Ok}
 use Rattle.layout.specs.Told.{ok, is_refusal}
 use Rattle.desk.specs.declared.state.Desk.{Desk}
 use Rattle.snapshot.specs.Read.{read_said}
 use Rattle.snapshot.specs.Write.{write_reply}
-use Rattle.snapshot.specs.declared.reading.ReadAnswer.TheVariants.{Own}
-use Rattle.snapshot.specs.declared.writing.WriteAnswer.TheVariants.{Ok}
+use Rattle.snapshot.specs.declared.seeing.Source.TheVariants.{Own}
 use Rattle.reels.specs.Reel.{words_of, reel_fault}
 use Rattle.reels.specs.Read.{read_reel_reply}
 use Rattle.reels.specs.Write.{write_reel_reply}
 use Rattle.reels.specs.declared.reel.Reel.{Reel}
-use Rattle.reels.specs.declared.unpacking.ReelAnswer.{ReelAnswer}
-use Rattle.reels.specs.declared.unpacking.ReelAnswer.TheVariants.{Found, SpeedToFind}
+use Rattle.reels.specs.declared.unpacking.Contents.{Contents}
+use Rattle.reels.specs.declared.unpacking.Contents.TheVariants.{Found, SpeedToFind}
 use Rattle.reels.specs.declared.reading.ReadReelReply.{ReadReelReply}
 use Rattle.history.specs.Call.{Listening, Begin, Read, Finish, Find, Call, begin, read, write, abandon, finish, publish, group, settle, reclaim, listen}
 use Rattle.claims.specs.Rules.{store_rules}
@@ -42,35 +41,35 @@ unfoldable pub all_besides : ℕ → ℕ → List Call → Bool
 all_besides s r [] = true
 all_besides s r (c ∷ cs) = besides s r c && all_besides s r cs
 
--- a read that finds the session's own reel
-abbrev pub own_reel : ReelAnswer → Desk → Reel → ReadReelReply
-own_reel a d reel = record { answer = a; source = Own; reel = reel; desk = d }
+-- a read that finds this in the session's own words
+abbrev pub own_reel : Contents → Desk → ReadReelReply
+own_reel found d = record { answer = Ok found; source = Ok Own; desk = d }
 
 module _ (w : World) (s r : ℕ) (reel : Reel) where
   -- the store behind the write of the reel's words and further calls
   abbrev pub behind : List Call → World
   behind calls = run store_rules (write s r (words_of reel) ∷ calls) w
 
-  -- it is read with this answer
-  abbrev pub Back : ReelAnswer → List Call → Type 0
-  Back a calls = read_reel_reply (behind calls).image (behind calls).desk s r ≡ own_reel a (behind calls).desk reel
+  -- this is read
+  abbrev pub Back : Contents → List Call → Type 0
+  Back found calls = read_reel_reply (behind calls).image (behind calls).desk s r ≡ own_reel found (behind calls).desk
 
-  pub record SameReel (a : ReelAnswer) : Type 0 where
+  pub record SameReel (found : Contents) : Type 0 where
     -- at once
-    pub at_once : Back a []
+    pub at_once : Back found []
     -- behind further calls, where the store does not refuse the read
     pub later : (calls : List Call) → all_besides s r calls ≡ true
-        → is_refusal (read_said (behind calls).image (behind calls).desk s r) ≡ false → Back a calls
+        → is_refusal (read_said (behind calls).image (behind calls).desk s r) ≡ false → Back found calls
 
 -- from any image that opens, behind any list of calls, a reel that the library writes
 abbrev pub ReelsBack : Type 0
 ReelsBack = (img : List ℕ) (len : ℕ) → (store_rules.opens img len).told ≡ ok → (earlier : List Call) (s r : ℕ) (reel : Reel)
     → let w = run store_rules earlier (opened store_rules img len) in
-    (write_reel_reply w.image w.desk s r reel).answer ≡ Ok → SameReel w s r reel Found
+    (write_reel_reply w.image w.desk s r reel).answer ≡ Ok tt → SameReel w s r reel (Found reel)
 
 -- and the words of an open reel without a speed, good to read, that the store writes
 abbrev pub StoredBack : Type 0
 StoredBack = (img : List ℕ) (len : ℕ) → (store_rules.opens img len).told ≡ ok → (earlier : List Call) (s r : ℕ) (reel : Reel)
     → let w = run store_rules earlier (opened store_rules img len) in
-    (write_reply w.image w.desk s r (words_of reel)).answer ≡ Ok → reel_fault reel ≡ 0 → reel.carrier ≡ 1 → reel.speed ≡ 0
-    → SameReel w s r reel SpeedToFind
+    (write_reply w.image w.desk s r (words_of reel)).answer ≡ Ok tt → reel_fault reel ≡ 0 → reel.carrier ≡ 1 → reel.speed ≡ 0
+    → SameReel w s r reel (SpeedToFind reel)

@@ -1,11 +1,12 @@
 -- Document 01, "What is turned away", with document 02's Req 03, 05, 06 and 08, as one table: the causes with their numbers, and
 -- for each call the row of causes that it asks, in order. The number told is that of the first cause in the row that holds, 0 where none
 -- does; with it go the values that the table lists, and a refusal leaves as it was what the table says.
-use Rattle.std.specs.Prelude.{ℕ, ◌+◌, ◌-◌, ◌*◌, Bool, true, false, ◌&&◌, not, cond, ◌≡◌, List, [], ◌∷◌, length, leb, ltb, eqb}
+use Rattle.std.specs.Prelude.{ℕ, ◌+◌, ◌-◌, ◌*◌, Bool, true, false, ◌&&◌, not, cond, ◌≡◌, List, [], ◌∷◌, length, replicate, leb, ltb, eqb, Ok, Err}
 use Rattle.layout.specs.Below.{any_below, lowest}
 use Rattle.layout.specs.Entries.{Entry, made, listed}
 use Rattle.layout.specs.Image.{records_of, sessions_of, ceiling_of, in_range, size_of, shaped_b, place_of, slot_word, occupied_at, occupied_b}
 use Rattle.layout.specs.Lay.{lay_answer, laid_image}
+use Rattle.layout.specs.Refusal.{Answer}
 use Rattle.layout.specs.Told.{Told, refused, is_refusal, lay_told}
 use Rattle.journal.specs.Log.{unsound_b, tied_b}
 use Rattle.desk.specs.Coherent.{limit, coherent_b}
@@ -13,15 +14,15 @@ use Rattle.desk.specs.Group.{member}
 use Rattle.desk.specs.Desk.{session_at, mark_at, is_idle, is_active, is_sealed, is_published, dropped}
 use Rattle.desk.specs.declared.state.Phase.{Phase}
 use Rattle.desk.specs.declared.state.Desk.{Desk}
-use Rattle.snapshot.specs.Own.{zero_words}
 use Rattle.snapshot.specs.Read.{read_reply}
+use Rattle.snapshot.specs.declared.seeing.Sight.{Sight}
 use Rattle.reels.specs.Reel.{shelf_b}
 use Rattle.listening.specs.Read.{listen_read_reply}
 use Rattle.recovery.specs.Open.{fresh_desk}
 use Rattle.history.specs.Call.{Listening, Begin, Read, Finish, Find, Call, begin, read, write, abandon, finish, publish, group, settle, reclaim, listen}
 use Rattle.claims.specs.Rules.{store_rules}
 
--- ---- the table's first two columns
+-- ---- the table's first two columns. These causes are the table's own; those that the code answers are the crate layout's `Refusal`
 
 pub data Cause : Type 0 where
   -- image length or header wrong; of lay the length alone
@@ -223,6 +224,11 @@ pub record TurnedAway {A : Type 0} (told : Told) (number value : ℕ) (left kept
   pub passes : number ≡ 0 → is_refusal told ≡ false
   pub leaves : (number ≡ 0 → ⊥) → left ≡ kept
 
+-- the words of a read; a refused one has none: four zeros
+abbrev pub words_read : Answer Sight → List ℕ
+words_read (Err r) = replicate 4 0
+words_read (Ok x) = x.words
+
 -- of a count of entries and a list: nothing is stored or listed, so that image and trace are as they were
 pub record StoresNothing (count : ℕ) (es : List Entry) : Type 0 where
   pub none : count ≡ 0
@@ -250,9 +256,9 @@ pub record Refusals : Type 0 where
       (made (store_rules.recover img len).entries img) img
   -- a refused read gives four zeros
   pub read-words : (img : List ℕ) (d : Desk) (s r : ℕ) → (first_refusal (row (read s r)) (given img d (read s r)) ≡ 0 → ⊥)
-      → (read_reply img d s r).words ≡ zero_words
+      → words_read (read_reply img d s r).answer ≡ replicate 4 0
   pub listen-read-words : (img : List ℕ) (d : Desk) (s r : ℕ)
-      → (first_refusal (listening_row (Read s r)) (given_listening img d (Read s r)) ≡ 0 → ⊥) → (listen_read_reply img d s r).words ≡ zero_words
+      → (first_refusal (listening_row (Read s r)) (given_listening img d (Read s r)) ≡ 0 → ⊥) → words_read (listen_read_reply img d s r).answer ≡ replicate 4 0
   -- a refusal stores nothing
   pub opens-store : (img : List ℕ) (len : ℕ) → (first_refusal open_row (of_image img len 0 0) ≡ 0 → ⊥)
       → StoresNothing (store_rules.opens img len).count (store_rules.opens img len).entries

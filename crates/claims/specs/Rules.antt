@@ -68,8 +68,7 @@ find_looks img d s k = answered (find_fault img d s k) (λ j. no_looks) (record 
 -- the listening room's calls; its finish lists no entries
 abbrev pub listening_call : List ℕ → Desk → Listening → Reply
 listening_call img d (Begin s) = tells (begin_told (begin_reply d s).answer) (begin_reply d s).desk
-listening_call img d (Read s r) =
-    tells (read_told (listen_read_reply img d s r).answer (listen_read_reply img d s r).words) (listen_read_reply img d s r).desk
+listening_call img d (Read s r) = tells (read_told (listen_read_reply img d s r).answer) (listen_read_reply img d s r).desk
 listening_call img d (Finish len s) =
     record {
       told = finish_told (listen_finish_reply img d len s).answer;
@@ -82,7 +81,7 @@ listening_call img d (Find s k) = searching (find_told (find_reply img d s k).an
 
 abbrev pub store_call : List ℕ → Desk → Call → Reply
 store_call img d (begin s) = tells (begin_told (begin_reply d s).answer) (begin_reply d s).desk
-store_call img d (read s r) = tells (read_told (read_reply img d s r).answer (read_reply img d s r).words) (read_reply img d s r).desk
+store_call img d (read s r) = tells (read_told (read_reply img d s r).answer) (read_reply img d s r).desk
 store_call img d (write s r ws) = tells (write_told (write_reply img d s r ws).answer) (write_reply img d s r ws).desk
 store_call img d (abandon s) = tells (abandon_told (abandon_reply d s).answer) (abandon_reply d s).desk
 store_call img d (finish len s) =

@@ -1,26 +1,16 @@
--- The bytes of a number, read one by one.
-use Rattle.std.proofs.Common.{◌≡◌, ℕ, suc, ◌+◌, ◌*◌, ◌≤◌, ◌<◌, List, length, get_or, drop, drop-cons, add-one, arith}
-use native.Mathlib.Numerals.{add-two, add-three, add-four}
+-- Eight bytes are the number that they have lowest byte first.
+use Rattle.std.proofs.Common.{◌≡◌, ℕ, ◌≤◌, List, [], ◌∷◌, length, take, arith}
+use Rattle.std.specs.Int.{w64, from_le_bytes}
 use Rattle.codec.specs.Bytes.{little}
 
-pub little-four : (s : List ℕ) (at : ℕ) → at + 4 ≤ length s
-    → get_or s at 0 + 256 * (get_or s (at + 1) 0 + 256 * (get_or s (at + 2) 0 + 256 * get_or s (at + 3) 0)) ≡ little 4 (drop at s)
+pub little_eight : (s : List ℕ) → 8 ≤ length s → from_le_bytes w64 (take 8 s) ≡ little 8 s
 unfolding little
-little-four s at h =
-    let a : at < length s = omega arith in
-    let b : suc at < length s = omega arith in
-    let c : suc (suc at) < length s = omega arith in
-    let d : suc (suc (suc at)) < length s = omega arith in
-    rw (add-one, add-two, add-three, drop-cons s at 0 a, drop-cons s (suc at) 0 b, drop-cons s (suc (suc at)) 0 c, drop-cons s (suc (suc (suc at))) 0 d)
-    (omega arith)
-
-pub little-eight : (s : List ℕ) (at : ℕ) → at + 8 ≤ length s
-    → little 4 (drop at s) + 4294967296 * little 4 (drop (at + 4) s) ≡ little 8 (drop at s)
-unfolding little
-little-eight s at h =
-    let a : at < length s = omega arith in
-    let b : suc at < length s = omega arith in
-    let c : suc (suc at) < length s = omega arith in
-    let d : suc (suc (suc at)) < length s = omega arith in
-    rw (add-four, drop-cons s at 0 a, drop-cons s (suc at) 0 b, drop-cons s (suc (suc at)) 0 c, drop-cons s (suc (suc (suc at))) 0 d)
-    (omega arith)
+little_eight [] l = absurd (omega arith)
+little_eight (a ∷ []) l = absurd (omega arith)
+little_eight (a ∷ b ∷ []) l = absurd (omega arith)
+little_eight (a ∷ b ∷ c ∷ []) l = absurd (omega arith)
+little_eight (a ∷ b ∷ c ∷ d ∷ []) l = absurd (omega arith)
+little_eight (a ∷ b ∷ c ∷ d ∷ e ∷ []) l = absurd (omega arith)
+little_eight (a ∷ b ∷ c ∷ d ∷ e ∷ f ∷ []) l = absurd (omega arith)
+little_eight (a ∷ b ∷ c ∷ d ∷ e ∷ f ∷ g ∷ []) l = absurd (omega arith)
+little_eight (a ∷ b ∷ c ∷ d ∷ e ∷ f ∷ g ∷ h ∷ s) l = omega arith

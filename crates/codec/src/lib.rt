@@ -4,5 +4,5 @@
 mod decoding;
 mod step;
 
-pub use decoding::{Decoded, Found, decode, word};
+pub use decoding::{Found, decode, word};
 pub use step::Step;

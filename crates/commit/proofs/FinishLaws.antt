@@ -1,34 +1,38 @@
 -- Finish, case by case.
-use Prim.Native.Nat.{ℕ, ◌+◌, ◌*◌, ◌-◌, ◌<◌, ◌≤◌}
+use Prim.Native.Nat.{ℕ, ◌+◌, ◌-◌, ◌<◌, ◌≤◌}
 use mathlib.Core.Bool.{true, ◌||◌}
-use mathlib.Core.Path.{◌≡◌, sym, ap, ◌∙◌}
+use mathlib.Core.Path.{◌≡◌, refl, sym, ap, subst, ◌∙◌}
 use mathlib.Core.List.{List, [], ◌++◌}
 use native.Mathlib.Omega.{arith}
 use lib.Dec.{ltb, eqb}
-use lib.ListN.{length, get_or, take, drop}
+use lib.ListN.{length, take, drop}
 use borrow.Author.Tests.{eq-eqb, ne_eqb, leb-true}
 use Rattle.layout.specs.Checks.{unless, first}
 use Rattle.layout.proofs.ChecksLaws.{first-both, unless-zero, answered-refused, answered-passed, answered-zero, answered-not}
-use Rattle.layout.specs.Entries.{Entry, shift, made, listed}
+use Rattle.layout.specs.Entries.{Entry, Write, shift, made, listed}
 use Rattle.layout.specs.Image.{home_words, place_of, slot_at}
-use Rattle.journal.specs.Changes.{Gathered}
+use Rattle.journal.specs.Changes.{changes_below, Gathered}
+use Rattle.journal.specs.Copies.{rec_in, words_in}
 use Rattle.journal.specs.Lengths.{seal_length}
-use Rattle.journal.specs.Log.{either_body, sealed_body, log_entries}
+use Rattle.journal.specs.Log.{either_body, index_in, word_in, sealed_body, log_entries}
 use Rattle.journal.proofs.GatheredLaws.{gathered-body, gathered-length}
+use Rattle.journal.proofs.TakenLaws.{taken-length, taken-rec, taken-differ, taken-changes, taken-body}
 use Rattle.layout.proofs.TraceLaws.{made-tail}
 use Rattle.desk.specs.Desk.{copied_rec, copied_words, session_at, is_active, idle_session, with_phase, end_session}
 use Rattle.desk.specs.Coherent.{limit}
 use Rattle.desk.specs.declared.state.Phase.TheVariants.{Sealed}
 use Rattle.desk.specs.declared.state.Desk.{Desk}
+use Rattle.desk.specs.declared.state.RecordCopy.{RecordCopy}
 use Rattle.desk.proofs.Copied.{copies-four, copies-below, copies-differ}
 use Rattle.layout.specs.Homes.{Differ}
 use Rattle.desk.specs.Entering.{image_fault}
 use Rattle.layout.specs.Checks.{room_for}
-use Rattle.commit.specs.Finish.{finish_fault, seal_entries, finish_entries, finish_refused, finish_reply, finish_said, changed_words}
-use Rattle.commit.specs.Told.{finish_told}
-use Rattle.commit.proofs.ToldLaws.{finish-tells}
-use Rattle.commit.specs.declared.finishing.FinishAnswer.TheVariants.{Empty, Sealed as SealedAt}
-use Rattle.commit.specs.declared.finishing.FinishReply.{FinishReply}
+use Rattle.commit.specs.Finish.{finish_fault, seal_entries, finish_entries, finish_refused, finish_done, finish_reply, changed_words}
+use Rattle.desk.specs.Replies.{storing_reply, given_by}
+use Rattle.desk.specs.declared.reply.StoringReply.{StoringReply}
+use Rattle.desk.proofs.ReplyLaws.{reply-whole}
+use Rattle.std.specs.Prelude.{Option, Some, None, Ok}
+use Rattle.layout.proofs.Says.{by-test}
 use Rattle.desk.proofs.Entered.{entered}
 
 -- past the checks 1 to 4 the session's slot lies within the image, and its log within the slot and the trace
@@ -58,16 +62,9 @@ slot-fits img d len s z =
     }
 
 -- finish gives the reply r, with the entries es
-pub record Finishes (img : List ℕ) (d : Desk) (len s : ℕ) (r : FinishReply) (es : List Entry) : Type 0 where
+pub record Finishes (img : List ℕ) (d : Desk) (len s : ℕ) (r : StoringReply (Option ℕ)) (es : List Entry) : Type 0 where
   pub reply : finish_reply img d len s ≡ r
   pub lists : finish_entries img d len s ≡ es
-
--- the reply r, and image and trace with es made and listed, are what finish gives
-pub finished : {img : List ℕ} {d : Desk} {len s : ℕ} {r : FinishReply} {es : List Entry} → Finishes img d len s r es
-    → {x : FinishReply} {img' t' : List ℕ} (t : List ℕ) → x ≡ r → img' ≡ made es img → t' ≡ listed es t
-    → (x ≡ finish_reply img d len s)
-    × ((img' ≡ made (finish_entries img d len s) img) × ((t' ≡ listed (finish_entries img d len s) t) × (finish_told x.answer ≡ finish_said img d len s)))
-finished h t a b c = finish-tells _ _ _ _ (a ∙ sym h.reply, (rw h.lists b, rw h.lists c))
 
 -- checks 6 and 10
 abbrev pub seal_fault : Desk → ℕ → ℕ
@@ -99,7 +96,7 @@ module _ (img : List ℕ) (d : Desk) (len s : ℕ) where
 
     module _ (y : seal_fault d s ≡ 0) where
       -- without copies
-      pub finish-empty : (session_at d s).count ≡ 0 → Finishes img d len s (record { answer = Empty; entries = 0; desk = end_session d s idle_session d.holders }) []
+      pub finish-empty : (session_at d s).count ≡ 0 → Finishes img d len s (record { answer = Ok None; entries = 0; desk = end_session d s idle_session d.holders }) []
       unfolding finish_reply finish_entries finish_fault
       finish-empty e =
           record {
@@ -110,7 +107,7 @@ module _ (img : List ℕ) (d : Desk) (len s : ℕ) where
       -- with copies
       pub finish-sealed : ((session_at d s).count ≡ 0 → ⊥)
           → Finishes img d len s
-          (record { answer = SealedAt d.clock; entries = seal_length (length (changed_words img d s)) (session_at d s).count; desk = end_session d s (with_phase (session_at d s) (Sealed d.clock)) d.holders })
+          (record { answer = Ok (Some d.clock); entries = seal_length (length (changed_words img d s)) (session_at d s).count; desk = end_session d s (with_phase (session_at d s) (Sealed d.clock)) d.holders })
           (seal_entries img d s)
       unfolding finish_reply finish_entries finish_fault
       finish-sealed n =
@@ -119,31 +116,69 @@ module _ (img : List ℕ) (d : Desk) (len s : ℕ) where
             lists = answered-passed _ _ (λ k. []) _ z ∙ answered-zero _ (λ k. []) _ y ∙ rw (ne_eqb _ 0 n);
           }
 
+-- the reply is made again of what it gives
+pub finish-whole : (img : List ℕ) (d : Desk) (len s : ℕ)
+    → storing_reply (given_by (finish_reply img d len s)) (finish_reply img d len s).desk ≡ finish_reply img d len s
+unfolding finish_reply
+finish-whole img d len s =
+    reply-whole (finish_fault img d len s) (finish_refused d) (finish_done img d s) (λ k. refl)
+    (by-test (eqb (session_at d s).count 0) (λ t. rw t refl) (λ f. rw f refl))
+
 module _ (img : List ℕ) (d : Desk) (s : ℕ) where
   -- the session's log, by places in its slot
   abbrev log : List Entry
   log = log_entries d.n (home_words img) d.clock (copied_rec (session_at d s)) (copied_words (session_at d s)) (session_at d s).count
 
-  -- what is gathered
-  abbrev Found : List ℕ → List ℕ → ℕ → Type 0
-  Found pairs pairs' k = Gathered (changed_words img d s) (session_at d s).count pairs pairs' k
+  -- its copies
+  abbrev copies : List RecordCopy
+  copies = take (session_at d s).count (session_at d s).copies
+
+  -- what is gathered of them
+  abbrev Found : List Write → Type 0
+  Found found = Gathered (changes_below (home_words img) (rec_in copies) (words_in copies) (length copies) d.n) (length copies) found
 
   -- the log as it is written of what was gathered
-  abbrev found : List ℕ → ℕ → List Entry
-  found pairs k = sealed_body d.clock (either_body (λ j. get_or pairs (2 * j) 0) (λ j. get_or pairs (2 * j + 1) 0) k (copied_rec (session_at d s)) (copied_words (session_at d s)) (session_at d s).count)
+  abbrev written : List Write → List Entry
+  written found = sealed_body d.clock (either_body (index_in found) (word_in found) (length found) (rec_in copies) (words_in copies) (length copies))
 
-  module _ {pairs pairs' : List ℕ} {k : ℕ} (few : (session_at d s).count ≤ 4) (g : Found pairs pairs' k) (long : length pairs ≡ 26) where
-    found-log : found pairs' k ≡ log
-    found-log = ap (sealed_body d.clock) (gathered-body (copied_rec (session_at d s)) (copied_words (session_at d s)) few long g)
+  -- the array has them all
+  module _ (room : (session_at d s).count ≤ length (session_at d s).copies) where
+    -- they can be gathered: there are few, of records below N that differ
+    pub copies-few : {len : ℕ} → SlotFits img d len s → length copies ≤ 4
+    copies-few f = omega (arith, f.count-high, taken-length (session_at d s).copies (session_at d s).count room)
 
-    pub found-length : seal_length k (session_at d s).count ≡ seal_length (length (changed_words img d s)) (session_at d s).count
-    found-length = gathered-length few long g
+    pub gatherable : {len : ℕ} → SlotFits img d len s
+        → ((length copies ≤ 4) × (d.n ≤ 256)) × (((j : ℕ) → j < length copies → rec_in copies j < d.n) × Differ (rec_in copies) (length copies))
+    gatherable f =
+        let cs = (session_at d s).copies in
+        let c = (session_at d s).count in (
+          (copies-few f, f.n-high),
+          (
+            (λ j l. let m : j < c = omega (arith, l, taken-length cs c room) in rw (taken-rec cs c room j m) (f.copied j m)),
+            taken-differ cs c room f.apart,
+          ),
+        )
 
-    module _ (from : ℕ) (e : from ≡ slot_at d.n (place_of s (session_at d s).slot)) where
-      -- written to the part of the image that starts at the slot
-      pub sealed-image : (part : List ℕ) → part ≡ made (found pairs' k) (take (length img - from) (drop from img))
-          → take from img ++ (part ++ drop (length img - from) (drop from img)) ≡ made (seal_entries img d s) img
-      sealed-image part m = made-tail from log img part (rw found-log at m) ∙ ap (λ b. made (shift b log) img) e
+    module _ {found : List Write} (g : Found found) where
+      all_found : Gathered (changed_words img d s) (session_at d s).count found
+      all_found =
+          subst (λ ws. Gathered ws (session_at d s).count found) (taken-changes (session_at d s).copies (session_at d s).count room (home_words img) d.n)
+          (subst (λ c. Gathered (changes_below (home_words img) (rec_in copies) (words_in copies) (length copies) d.n) c found) (taken-length (session_at d s).copies (session_at d s).count room) g)
 
-      pub sealed-trace : (t t' : List ℕ) → t' ≡ listed (shift from (found pairs' k)) t → t' ≡ listed (seal_entries img d s) t
-      sealed-trace t t' l = (rw found-log at l) ∙ ap (λ b. listed (shift b log) t) e
+      found-log : written found ≡ log
+      found-log =
+          ap (sealed_body d.clock)
+          (taken-body (session_at d s).copies (session_at d s).count room (index_in found) (word_in found) (length found)
+          ∙ gathered-body (copied_rec (session_at d s)) (copied_words (session_at d s)) all_found)
+
+      pub found-length : seal_length (length found) (session_at d s).count ≡ seal_length (length (changed_words img d s)) (session_at d s).count
+      found-length = gathered-length all_found
+
+      module _ (from : ℕ) (e : from ≡ slot_at d.n (place_of s (session_at d s).slot)) where
+        -- written to the part of the image that starts at the slot
+        pub sealed-image : (part : List ℕ) → part ≡ made (written found) (take (length img - from) (drop from img))
+            → take from img ++ (part ++ drop (length img - from) (drop from img)) ≡ made (seal_entries img d s) img
+        sealed-image part m = made-tail from log img part (rw found-log at m) ∙ ap (λ b. made (shift b log) img) e
+
+        pub sealed-trace : (t t' : List ℕ) → t' ≡ listed (shift from (written found)) t → t' ≡ listed (seal_entries img d s) t
+        sealed-trace t t' l = (rw found-log at l) ∙ ap (λ b. listed (shift b log) t) e

@@ -1,11 +1,13 @@
 -- The front run of equal starts of the list of active sessions has the reader that settle waits for: the full walk's answer.
-use Prim.Native.Nat.{ℕ, ◌+◌, ◌<◌, ◌≤◌}
-use mathlib.Core.Bool.{true, false≢true}
-use mathlib.Core.Path.{◌≡◌, refl, sym, ap, ◌∙◌, subst}
+use Prim.Native.Nat.{ℕ, ◌+◌, ◌<◌, ◌≤◌, min}
+use mathlib.Core.Bool.{true, false, cond, false≢true, ◌&&◌}
+use mathlib.Core.Path.{◌≡◌, refl, sym, ap, ◌∙◌}
 use mathlib.Core.Logic.{◌⊎◌}
 use native.Mathlib.Omega.{arith}
-use lib.Dec.{ltb}
-use borrow.Author.Tests.{lt-ltb, ltb-true, ltb-false}
+use lib.Dec.{ltb, leb, eqb}
+use borrow.Author.Tests.{lt-ltb, ltb-true, ltb-false, leb-true, leb-false, eqb-true, eq-eqb, ne_eqb}
+use Rattle.std.specs.Prelude.{Option, Some, None}
+use Rattle.std.specs.Option.{option_eq}
 use Rattle.layout.specs.Oldest.{oldest_of}
 use Rattle.layout.specs.declared.oldest.Oldest.{Oldest}
 use Rattle.layout.proofs.Least.{Least, oldest-is}
@@ -17,7 +19,7 @@ use Rattle.desk.specs.declared.state.Desk.{Desk}
 use Rattle.layout.proofs.Counts.{by-same}
 use Rattle.desk.proofs.Facts.{NumberIn, Coherent}
 use Rattle.layout.proofs.Order.{all_listed}
-use Rattle.commit.specs.Settle.{end_of, start_below, oldest_reader}
+use Rattle.commit.specs.Settle.{start_below, reader_below}
 
 -- two that are oldest of the same numbers are one
 least-one : (f : ℕ → ℕ) (n : ℕ) (a b : Oldest) → Least f n a → Least f n b → (a.number ≡ 0 → ⊥) → (a.number ≡ b.number) × (a.place ≡ b.place)
@@ -70,15 +72,15 @@ run-start d end =
     }
 
 pub run_more : (d : Desk) (end j low next : ℕ) → Run d end j low → start_below end (session_at d (order_at d j)).phase ≡ start_below end (session_at d (order_at d 0)).phase
-    → (next ≤ low) × ((next ≤ order_at d j) × ((next ≡ low) ⊎ (next ≡ order_at d j))) → Run d end (j + 1) next
+    → next ≡ min low (order_at d j) → Run d end (j + 1) next
 run_more d end j low next r e m =
     record {
       same = λ i l. by-same i j
-          (λ q. rw q (e, m.1.0))
-          (λ ne. let s = r.same i (omega arith) in (s.0, omega (arith, s.1, m.0)));
-      at = by-case m.1.1
-          (λ q. (r.at.0, omega (arith, r.at.1), r.at.2 ∙ sym q))
-          (λ q. (j, omega arith, sym q));
+          (λ q. rw q (e, omega (arith, m)))
+          (λ ne. let s = r.same i (omega arith) in (s.0, omega (arith, s.1, m)));
+      at = by-test (leb low (order_at d j))
+          (λ t. (r.at.0, omega (arith, r.at.1), omega (arith, leb-true _ _ t, r.at.2, m)))
+          (λ f. (j, omega arith, omega (arith, leb-false _ _ f, m)));
     }
 
 module _ (d : Desk) (h : Coherent d) (end : ℕ) where
@@ -163,18 +165,56 @@ module _ (d : Desk) (h : Coherent d) (end : ℕ) where
 pub low_small : (d : Desk) → Coherent d → (end j low : ℕ) → j ≤ 16 → Run d end j low → low < 16
 low_small d h end j low l r = let s = order_small d h r.at.0 (omega (arith, r.at.1)) in omega (arith, r.at.2)
 
-module _ (d : Desk) (h : Coherent d) (s end : ℕ) (e : end ≡ end_of (session_at d s).phase) where
+module _ (d : Desk) (h : Coherent d) (end : ℕ) where
   abbrev front : ℕ
   front = start_below end (session_at d (order_at d 0)).phase
 
-  -- the front is in the way: the reader that session s waits for
+  -- the front is in the way: the lowest session of its run is the reader
   pub reader-waits : (front ≡ 0 → ⊥) → (j low : ℕ) → j ≤ 16 → Run d end j low
-      → (active_count d ≤ j) ⊎ (start_below end (session_at d (order_at d j)).phase ≡ front → ⊥) → record { number = front; place = low } ≡ oldest_reader d s
-  unfolding oldest_reader
-  reader-waits n j low l r stop =
-      subst (λ (x : ℕ). record { number = front; place = low } ≡ oldest_of (λ t. start_below x (session_at d t).phase) 16) e (front-is d h end n j low l r stop)
+      → (active_count d ≤ j) ⊎ (start_below end (session_at d (order_at d j)).phase ≡ front → ⊥) → reader_below d end ≡ Some low
+  reader-waits n j low l r stop = rw (← (front-is d h end n j low l r stop), ne_eqb front 0 n)
 
   -- it is not: there is none
-  pub reader-none : front ≡ 0 → (oldest_reader d s).number ≡ 0
-  unfolding oldest_reader
-  reader-none z = subst (λ (x : ℕ). (oldest_of (λ t. start_below x (session_at d t).phase) 16).number ≡ 0) e (front-none d h end z)
+  pub reader-none : front ≡ 0 → reader_below d end ≡ None
+  reader-none z = rw (front-none d h end z)
+
+-- the start of an active session that is below an end, as the full walk has it: 0 for any other
+module _ (end clock : ℕ) (p : Phase) {o : Option ℕ} (e : o ≡ cond (is_active p && ltb (start_of p) end) (Some (start_of p)) None) where
+  pub start-some : NumberIn p clock → (b : ℕ) → o ≡ Some b → (start_below end p ≡ b) × (b ≡ 0 → ⊥)
+  start-some = go p e
+    where
+      go : (p : Phase) → o ≡ cond (is_active p && ltb (start_of p) end) (Some (start_of p)) None → NumberIn p clock → (b : ℕ) → o ≡ Some b → (start_below end p ≡ b) × (b ≡ 0 → ⊥)
+      go Idle e n b s = absurd (cc)
+      go (Active a) e n b s =
+          by-test (ltb a end)
+          (λ t. let q : a ≡ b = (let x = rw t at e in cc) in (rw t q, λ z. omega (arith, n.0, q, z)))
+          (λ f. absurd (let x = rw f at e in cc))
+      go (Sealed a) e n b s = absurd (cc)
+      go (Published a) e n b s = absurd (cc)
+
+  pub start-none : o ≡ None → start_below end p ≡ 0
+  start-none = go p e
+    where
+      go : (p : Phase) → o ≡ cond (is_active p && ltb (start_of p) end) (Some (start_of p)) None → o ≡ None → start_below end p ≡ 0
+      go Idle e s = refl
+      go (Active a) e s = by-test (ltb a end) (λ t. absurd (let x = rw t at e in cc)) (λ f. rw f)
+      go (Sealed a) e s = refl
+      go (Published a) e s = refl
+
+  -- a session with this start that is in the way
+  pub start-same : (b : ℕ) → (b ≡ 0 → ⊥) → start_below end p ≡ b → o ≡ Some b
+  start-same = go p e
+    where
+      go : (p : Phase) → o ≡ cond (is_active p && ltb (start_of p) end) (Some (start_of p)) None → (b : ℕ) → (b ≡ 0 → ⊥) → start_below end p ≡ b → o ≡ Some b
+      go Idle e b n s = absurd (n (sym s))
+      go (Active a) e b n s = by-test (ltb a end) (λ t. e ∙ rw (t, rw t at s)) (λ f. absurd (n (sym (rw f at s))))
+      go (Sealed a) e b n s = absurd (n (sym s))
+      go (Published a) e b n s = absurd (n (sym s))
+
+-- two answers that are compared
+pub same_start : (o : Option ℕ) (b : ℕ) → option_eq eqb o (Some b) ≡ true → o ≡ Some b
+same_start (Some a) b e = ap Some (eqb-true a b e)
+same_start None b e = absurd (false≢true e)
+
+pub other_start : (o : Option ℕ) (b : ℕ) → option_eq eqb o (Some b) ≡ false → o ≡ Some b → ⊥
+other_start o b e s = false≢true (sym (rw s at e) ∙ eq-eqb b b refl)

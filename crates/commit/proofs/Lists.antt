@@ -28,15 +28,15 @@ use Rattle.desk.proofs.Entered.{entered}
 use Rattle.commit.specs.Finish.{finish_fault, finish_entries, changed_words, seal_entries, finish_refused, finish_reply}
 use Rattle.commit.specs.Settle.{settle_fault, settle_entries, go_home_entries, waits_b, settle_refused, settle_reply}
 use Rattle.commit.specs.Reclaim.{reclaim_fault, reclaim_entries, clear_entries, none_left, held_b, reclaim_refused, reclaim_reply}
-use Rattle.commit.specs.declared.finishing.FinishReply.{FinishReply}
-use Rattle.commit.specs.declared.settling.SettleReply.{SettleReply}
-use Rattle.commit.specs.declared.reclaiming.ReclaimReply.{ReclaimReply}
+use Rattle.std.specs.Prelude.{Option}
+use Rattle.desk.specs.declared.reply.StoringReply.{StoringReply}
+use Rattle.commit.specs.declared.reclaiming.Reclaimed.{Reclaimed}
 
 pub finish-tidy : (img : List ℕ) (d : Desk) (len s : ℕ) → Tidy (finish_fault img d len s) (finish_reply img d len s).entries (finish_entries img d len s)
 unfolding finish_reply finish_entries finish_fault
 finish-tidy img d len s =
-    tidy-answered (λ (r : FinishReply). r.entries) (finish_fault img d len s) (finish_refused d) _ _ (λ k. refl)
-    (λ z. tidy-cond (λ (r : FinishReply). r.entries) (eqb (session_at d s).count 0) _ _ [] (seal_entries img d s) (λ e. tidy-none 0 refl) (λ e. seals z (eqb-false _ _ e)))
+    tidy-answered (λ (r : StoringReply (Option ℕ)). r.entries) (finish_fault img d len s) (finish_refused d) _ _ (λ k. refl)
+    (λ z. tidy-cond (λ (r : StoringReply (Option ℕ)). r.entries) (eqb (session_at d s).count 0) _ _ [] (seal_entries img d s) (λ e. tidy-none 0 refl) (λ e. seals z (eqb-false _ _ e)))
   where
     base : ℕ
     base = slot_at d.n (place_of s (session_at d s).slot)
@@ -71,8 +71,8 @@ settle-length d s =
 pub settle-tidy : (img : List ℕ) (d : Desk) (len s : ℕ) → Tidy (settle_fault img d len s) (settle_reply img d len s).entries (settle_entries img d len s)
 unfolding settle_reply settle_entries settle_fault
 settle-tidy img d len s =
-    tidy-answered (λ (r : SettleReply). r.entries) (settle_fault img d len s) (settle_refused d) _ _ (λ k. refl)
-    (λ z. tidy-cond (λ (r : SettleReply). r.entries) (waits_b d s) _ _ [] (go_home_entries d s) (λ e. tidy-none 0 refl) (λ e. settles z))
+    tidy-answered (λ (r : StoringReply (Option ℕ)). r.entries) (settle_fault img d len s) (settle_refused d) _ _ (λ k. refl)
+    (λ z. tidy-cond (λ (r : StoringReply (Option ℕ)). r.entries) (waits_b d s) _ _ [] (go_home_entries d s) (λ e. tidy-none 0 refl) (λ e. settles z))
   where
     ws : List Write
     ws = homes_writes (copied_rec (session_at d s)) (copied_words (session_at d s)) (session_at d s).count
@@ -92,7 +92,7 @@ settle-tidy img d len s =
 pub reclaim-tidy : (img : List ℕ) (d : Desk) (len s : ℕ) → Tidy (reclaim_fault img d len s) (reclaim_reply img d len s).entries (reclaim_entries img d len s)
 unfolding reclaim_reply reclaim_entries
 reclaim-tidy img d len s =
-    tidy-answered (λ (r : ReclaimReply). r.entries) (reclaim_fault img d len s) (reclaim_refused d) _ _ (λ k. refl)
-    (λ z. tidy-cond (λ (r : ReclaimReply). r.entries) (none_left img d s) _ _ [] _ (λ e. tidy-none 0 refl)
-    (λ e. tidy-cond (λ (r : ReclaimReply). r.entries) (held_b img d s) _ _ [] (clear_entries img d s) (λ e. tidy-none 0 refl)
+    tidy-answered (λ (r : StoringReply Reclaimed). r.entries) (reclaim_fault img d len s) (reclaim_refused d) _ _ (λ k. refl)
+    (λ z. tidy-cond (λ (r : StoringReply Reclaimed). r.entries) (none_left img d s) _ _ [] _ (λ e. tidy-none 0 refl)
+    (λ e. tidy-cond (λ (r : StoringReply Reclaimed). r.entries) (held_b img d s) _ _ [] (clear_entries img d s) (λ e. tidy-none 0 refl)
     (λ e. tidy-list _ (clear_entries img d s) refl (omega arith) refl refl)))

@@ -3,7 +3,7 @@
 -- than 5c (document 02, Req 08): 16 + k and the pairs, a fence, the persist number, a fence, 2k + 4 entries. Else it is a full one: the
 -- count and the copies, then the same, 5c + 4 entries. Sealed or empty, it leaves the list of active sessions (Req 09). Checks 1, 2, 3, 4,
 -- 6, 10.
-use Rattle.std.specs.Prelude.{ℕ, ◌||◌, cond, List, [], ltb, eqb, length}
+use Rattle.std.specs.Prelude.{ℕ, ◌||◌, cond, List, [], ltb, eqb, length, Option, Some, None, Ok, Err}
 use Rattle.layout.specs.Checks.{unless, first, answered}
 use Rattle.layout.specs.Entries.{Entry, Write, shift}
 use Rattle.journal.specs.Changes.{changes_below}
@@ -16,8 +16,8 @@ use Rattle.desk.specs.declared.state.Phase.TheVariants.{Sealed}
 use Rattle.desk.specs.declared.state.Desk.{Desk}
 use Rattle.desk.specs.Entering.{image_fault}
 use Rattle.layout.specs.Checks.{room_for}
-use Rattle.commit.specs.declared.finishing.FinishAnswer.TheVariants.{Refused, Empty, Sealed as SealedAt}
-use Rattle.commit.specs.declared.finishing.FinishReply.{FinishReply}
+use Rattle.desk.specs.declared.reply.StoringReply.{StoringReply}
+use Rattle.layout.specs.Refusal.{cause}
 use Rattle.layout.specs.Told.{Told, refusal, empty, sealed_at}
 
 -- `len` is the length of the trace; 10 is asked with copies only
@@ -41,21 +41,21 @@ unfoldable pub finish_entries : List ℕ → Desk → ℕ → ℕ → List Entry
 finish_entries img d len s =
     answered (finish_fault img d len s) (λ k. []) (cond (eqb (session_at d s).count 0) [] (seal_entries img d s))
 
-abbrev pub finish_refused : Desk → ℕ → FinishReply
-finish_refused d k = record { answer = Refused k; entries = 0; desk = d }
+abbrev pub finish_refused : Desk → ℕ → StoringReply (Option ℕ)
+finish_refused d k = record { answer = Err (cause k); entries = 0; desk = d }
 
 -- the number of entries is that of the form, by the number of copies and of the words that differ
-abbrev pub finish_done : List ℕ → Desk → ℕ → FinishReply
+abbrev pub finish_done : List ℕ → Desk → ℕ → StoringReply (Option ℕ)
 finish_done img d s =
     cond (eqb (session_at d s).count 0)
-    (record { answer = Empty; entries = 0; desk = end_session d s idle_session d.holders })
+    (record { answer = Ok None; entries = 0; desk = end_session d s idle_session d.holders })
     (record {
-      answer = SealedAt d.clock;
+      answer = Ok (Some d.clock);
       entries = seal_length (length (changed_words img d s)) (session_at d s).count;
       desk = end_session d s (with_phase (session_at d s) (Sealed d.clock)) d.holders;
     })
 
-unfoldable pub finish_reply : List ℕ → Desk → ℕ → ℕ → FinishReply
+unfoldable pub finish_reply : List ℕ → Desk → ℕ → ℕ → StoringReply (Option ℕ)
 finish_reply img d len s = answered (finish_fault img d len s) (finish_refused d) (finish_done img d s)
 
 -- what it tells: empty, or the persist number

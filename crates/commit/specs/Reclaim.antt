@@ -2,7 +2,7 @@
 -- No slot left: "none". Otherwise it takes the one with the smallest persist number, lower slot first. If any slot of the image has a
 -- smaller non-zero number the answer is "held" with the smallest. Otherwise it stores 0 there and a fence: 2 entries, "cleared" with the
 -- number it had. Checks 1, 2, 3, 4.
-use Rattle.std.specs.Prelude.{ℕ, ◌*◌, Bool, ◌&&◌, ◌||◌, cond, List, [], ◌∷◌, length, ltb, eqb}
+use Rattle.std.specs.Prelude.{ℕ, ◌*◌, Bool, ◌&&◌, ◌||◌, cond, List, [], ◌∷◌, length, ltb, eqb, Ok, Err}
 use Rattle.layout.specs.Checks.{answered}
 use Rattle.layout.specs.Entries.{Entry, store, fence}
 use Rattle.layout.specs.Image.{place_of, slot_at, persist_at}
@@ -13,8 +13,10 @@ use Rattle.desk.specs.declared.state.Session.{Session}
 use Rattle.desk.specs.declared.state.Desk.{Desk}
 use Rattle.desk.specs.Entering.{image_fault}
 use Rattle.layout.specs.Checks.{room_for}
-use Rattle.commit.specs.declared.reclaiming.ReclaimAnswer.TheVariants.{Refused, None, Held, Cleared}
-use Rattle.commit.specs.declared.reclaiming.ReclaimReply.{ReclaimReply}
+use Rattle.desk.specs.declared.reply.StoringReply.{StoringReply}
+use Rattle.layout.specs.Refusal.{cause}
+use Rattle.commit.specs.declared.reclaiming.Reclaimed.{Reclaimed}
+use Rattle.commit.specs.declared.reclaiming.Reclaimed.TheVariants.{Nothing, Held, Cleared}
 use Rattle.layout.specs.Told.{Told, refusal, nothing, held, cleared}
 
 unfoldable pub reclaim_fault : List ℕ → Desk → ℕ → ℕ → ℕ
@@ -51,18 +53,18 @@ unfoldable pub reclaim_entries : List ℕ → Desk → ℕ → ℕ → List Entr
 reclaim_entries img d len s =
     answered (reclaim_fault img d len s) (λ k. []) (cond (none_left img d s) [] (cond (held_b img d s) [] (clear_entries img d s)))
 
-abbrev pub reclaim_refused : Desk → ℕ → ReclaimReply
-reclaim_refused d k = record { answer = Refused k; entries = 0; desk = d }
+abbrev pub reclaim_refused : Desk → ℕ → StoringReply Reclaimed
+reclaim_refused d k = record { answer = Err (cause k); entries = 0; desk = d }
 
-abbrev pub reclaim_done : List ℕ → Desk → ℕ → ReclaimReply
+abbrev pub reclaim_done : List ℕ → Desk → ℕ → StoringReply Reclaimed
 reclaim_done img d s =
     cond (none_left img d s)
-    (record { answer = None; entries = 0; desk = d })
+    (record { answer = Ok Nothing; entries = 0; desk = d })
     (cond (held_b img d s)
-    (record { answer = Held (oldest_log img d).number; entries = 0; desk = d })
-    (record { answer = Cleared (chosen img d s).number; entries = length (clear_entries img d s); desk = d }))
+    (record { answer = Ok (Held (oldest_log img d).number); entries = 0; desk = d })
+    (record { answer = Ok (Cleared (chosen img d s).number); entries = length (clear_entries img d s); desk = d }))
 
-unfoldable pub reclaim_reply : List ℕ → Desk → ℕ → ℕ → ReclaimReply
+unfoldable pub reclaim_reply : List ℕ → Desk → ℕ → ℕ → StoringReply Reclaimed
 reclaim_reply img d len s = answered (reclaim_fault img d len s) (reclaim_refused d) (reclaim_done img d s)
 
 -- what it tells: none, held with the smallest number, or cleared with the number that the slot had

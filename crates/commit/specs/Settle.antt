@@ -2,7 +2,7 @@
 -- the one that has the smallest start, and among equal starts the lowest session; no stores. Otherwise the copies go home and a fence
 -- follows: 4c + 1 entries. Marks and copies are dropped; the session is idle; the slot stays occupied. The definition
 -- looks at every session; the code at the front of the list alone (document 02, Req 09; `Front` in proofs/). Checks 1, 2, 3, 4, 6.
-use Rattle.std.specs.Prelude.{ℕ, Bool, not, cond, List, [], ◌∷◌, ◌++◌, eqb, ltb}
+use Rattle.std.specs.Prelude.{ℕ, Bool, not, cond, List, [], ◌∷◌, ◌++◌, eqb, ltb, Option, Some, None, Ok, Err}
 use Rattle.layout.specs.Checks.{unless, first, answered}
 use Rattle.layout.specs.Entries.{Entry, fence, stores}
 use Rattle.layout.specs.Homes.{homes_writes}
@@ -15,8 +15,8 @@ use Rattle.desk.specs.declared.state.Phase.TheVariants.{Idle, Active, Sealed, Pu
 use Rattle.desk.specs.declared.state.Desk.{Desk}
 use Rattle.desk.specs.Entering.{image_fault}
 use Rattle.layout.specs.Checks.{room_for}
-use Rattle.commit.specs.declared.settling.SettleAnswer.TheVariants.{Refused, Wait, Ok}
-use Rattle.commit.specs.declared.settling.SettleReply.{SettleReply}
+use Rattle.desk.specs.declared.reply.StoringReply.{StoringReply}
+use Rattle.layout.specs.Refusal.{cause}
 use Rattle.layout.specs.Told.{Told, refusal, ok, wait}
 
 unfoldable pub settle_fault : List ℕ → Desk → ℕ → ℕ → ℕ
@@ -45,6 +45,12 @@ starts_for d s t = start_below (end_of (session_at d s).phase) (session_at d t).
 unfoldable pub oldest_reader : Desk → ℕ → Oldest
 oldest_reader d s = oldest_of (starts_for d s) 16
 
+-- the session in the way of this end that has the smallest start, among equal starts the lowest, if there is one
+abbrev pub reader_below : Desk → ℕ → Option ℕ
+reader_below d end =
+    let oldest = oldest_of (λ t. start_below end (session_at d t).phase) 16 in
+    cond (eqb oldest.number 0) None (Some oldest.place)
+
 -- the copies go home, and a fence
 abbrev pub go_home_entries : Desk → ℕ → List Entry
 go_home_entries d s =
@@ -57,21 +63,21 @@ waits_b d s = not (eqb (oldest_reader d s).number 0)
 unfoldable pub settle_entries : List ℕ → Desk → ℕ → ℕ → List Entry
 settle_entries img d len s = answered (settle_fault img d len s) (λ k. []) (cond (waits_b d s) [] (go_home_entries d s))
 
-abbrev pub settle_refused : Desk → ℕ → SettleReply
-settle_refused d k = record { answer = Refused k; entries = 0; desk = d }
+abbrev pub settle_refused : Desk → ℕ → StoringReply (Option ℕ)
+settle_refused d k = record { answer = Err (cause k); entries = 0; desk = d }
 
 -- session s is idle, its marks and copies are dropped; it was not among the active ones
 abbrev pub sent_home : Desk → ℕ → Desk
 sent_home d s = changed d s idle_session d.clock (rest_marks d s) d.order
 
 -- the number of entries is the table's, by the number of copies
-abbrev pub settle_done : Desk → ℕ → SettleReply
+abbrev pub settle_done : Desk → ℕ → StoringReply (Option ℕ)
 settle_done d s =
     cond (waits_b d s)
-    (record { answer = Wait (oldest_reader d s).place; entries = 0; desk = d })
-    (record { answer = Ok; entries = settle_length (session_at d s).count; desk = sent_home d s })
+    (record { answer = Ok (Some (oldest_reader d s).place); entries = 0; desk = d })
+    (record { answer = Ok None; entries = settle_length (session_at d s).count; desk = sent_home d s })
 
-unfoldable pub settle_reply : List ℕ → Desk → ℕ → ℕ → SettleReply
+unfoldable pub settle_reply : List ℕ → Desk → ℕ → ℕ → StoringReply (Option ℕ)
 settle_reply img d len s = answered (settle_fault img d len s) (settle_refused d) (settle_done d s)
 
 -- what it tells: the session that it waits for, or ok

@@ -1,24 +1,30 @@
 -- What each answer of finish, settle and reclaim tells.
-use Rattle.layout.specs.Told.{Told, refusal, ok, empty, sealed_at, wait, nothing, held, cleared}
-use Rattle.commit.specs.declared.finishing.FinishAnswer.{FinishAnswer}
-use Rattle.commit.specs.declared.finishing.FinishAnswer.TheVariants.{Refused as FinishRefused, Empty, Sealed}
-use Rattle.commit.specs.declared.settling.SettleAnswer.{SettleAnswer}
-use Rattle.commit.specs.declared.settling.SettleAnswer.TheVariants.{Refused as SettleRefused, Wait, Ok as Settled}
-use Rattle.commit.specs.declared.reclaiming.ReclaimAnswer.{ReclaimAnswer}
-use Rattle.commit.specs.declared.reclaiming.ReclaimAnswer.TheVariants.{Refused as ReclaimRefused, None, Held, Cleared}
+use Rattle.std.specs.Prelude.{ℕ, Option, Some, None}
+use Rattle.layout.specs.Refusal.{Answer}
+use Rattle.layout.specs.Told.{Told, tells, ok, empty, sealed_at, wait, nothing, held, cleared}
+use Rattle.commit.specs.declared.reclaiming.Reclaimed.{Reclaimed}
+use Rattle.commit.specs.declared.reclaiming.Reclaimed.TheVariants.{Nothing, Held, Cleared}
 
-abbrev pub finish_told : FinishAnswer → Told
-finish_told (FinishRefused k) = refusal k
-finish_told Empty = empty
-finish_told (Sealed p) = sealed_at p
+-- of finish, by the persist number
+abbrev pub sealed_told : Option ℕ → Told
+sealed_told (Some p) = sealed_at p
+sealed_told None = empty
 
-abbrev pub settle_told : SettleAnswer → Told
-settle_told (SettleRefused k) = refusal k
-settle_told (Wait t) = wait t
-settle_told Settled = ok
+abbrev pub finish_told : Answer (Option ℕ) → Told
+finish_told = tells sealed_told
 
-abbrev pub reclaim_told : ReclaimAnswer → Told
-reclaim_told (ReclaimRefused k) = refusal k
-reclaim_told None = nothing
-reclaim_told (Held p) = held p
-reclaim_told (Cleared p) = cleared p
+-- of settle, by the session that it waits for
+abbrev pub wait_told : Option ℕ → Told
+wait_told (Some t) = wait t
+wait_told None = ok
+
+abbrev pub settle_told : Answer (Option ℕ) → Told
+settle_told = tells wait_told
+
+abbrev pub slot_told : Reclaimed → Told
+slot_told Nothing = nothing
+slot_told (Held p) = held p
+slot_told (Cleared p) = cleared p
+
+abbrev pub reclaim_told : Answer Reclaimed → Told
+reclaim_told = tells slot_told

@@ -1,10 +1,11 @@
 // Finish, settle and reclaim: a transaction's log is written, its copies go home, and its slot is emptied.
 #![tactic(auto)]
 
+mod copies;
 mod finishing;
 mod reclaiming;
 mod settling;
 
-pub use finishing::{FinishAnswer, FinishReply, finish};
-pub use reclaiming::{ReclaimAnswer, ReclaimReply, reclaim};
-pub use settling::{SettleAnswer, SettleReply, settle};
+pub use finishing::finish;
+pub use reclaiming::{Reclaimed, reclaim};
+pub use settling::settle;

@@ -5,7 +5,7 @@ use mathlib.Core.Path.{◌≡◌, refl}
 use mathlib.Core.Logic.{◌⊎◌, inl, inr}
 use native.Mathlib.Omega.{arith}
 use lib.Dec.{ltb}
-use borrow.Author.Tests.{lt-ltb, ltb-true, ltb-false}
+use borrow.Author.Tests.{ltb-true, ltb-false}
 use Rattle.layout.specs.Below.{all_below, count_below}
 use Rattle.layout.proofs.BelowLaws.{count_most}
 use Rattle.layout.proofs.Says.{Says, says-le, says-lt, says_eq, says_ne, says-and, says-or, says_same, says_all, says_any, says_if, says-itself, says_then, says-by, by-test, by-case}
@@ -14,7 +14,7 @@ use Rattle.desk.specs.declared.state.Session.{Session}
 use Rattle.desk.specs.declared.state.Phase.{Phase}
 use Rattle.desk.specs.declared.state.Phase.TheVariants.{Idle, Active, Sealed, Published}
 use Rattle.desk.specs.Desk.{copy_at, session_at, mark_at, order_at, is_idle, is_sealed, is_published, start_at, active_at, active_count}
-use Rattle.desk.specs.Coherent.{limit, copies_b, mark_ok, entry_ok, session_ok, places_ok, place_ok, fresh_b, count_ok, number_ok, zero_copy_b, sealed_at, sizes_ok, list_ok, coherent_b, census_of}
+use Rattle.desk.specs.Coherent.{limit, copies_b, mark_ok, entry_ok, session_ok, places_ok, place_ok, fresh_b, count_ok, number_ok, zero_copy_b, sealed_at, sizes_ok, list_ok, coherent_b}
 use Rattle.layout.proofs.Order.{InOrder}
 
 abbrev pub CountIn : Phase → ℕ → Type 0
@@ -181,15 +181,3 @@ says-coherent d =
       order = t.1.1.1;
     })
     (λ r. (((((r.clock-low, r.clock-high), (r.n-low, r.n-high)), (r.m-low, r.m-high))), (λ s l. (r.session s l, r.idle s l), (r.marks, r.order))))
-
--- ---- what is found of a desk
-
--- 17 just where it is not coherent
-pub census-coherent : (d : Desk) → ltb (census_of d) 17 ≡ coherent_b d
-unfolding census_of
-census-coherent d = by-test (coherent_b d) (λ t. rw t (lt-ltb (active_count d) 17 (omega (arith, count_most (active_at d) 16)))) (λ f. rw f)
-
--- else how many sessions are active
-pub census-counts : (d : Desk) → Coherent d → census_of d ≡ active_count d
-unfolding census_of
-census-counts d h = rw ((says-coherent d).no h)

@@ -1,43 +1,35 @@
 -- Group publish, case by case, and that its list of entries is tidy.
-use Prim.Native.Nat.{ℕ, zero, suc, ◌+◌}
+use Prim.Native.Nat.{ℕ, zero, suc, ◌+◌, ◌≤◌}
 use mathlib.Core.Bool.{true, false, ◌&&◌}
 use mathlib.Core.Path.{◌≡◌, refl, sym, ap, ◌∙◌}
 use mathlib.Core.List.{List, []}
 use native.Mathlib.Numerals.{add-one}
 use borrow.Author.Tests.{lt-ltb}
-use Rattle.layout.specs.Below.{all_below, any_below}
 use Rattle.layout.specs.Ceiling.{pass_entries}
 use Rattle.layout.specs.Checks.{unless, first, room_for}
 use Rattle.layout.specs.Entries.{Entry}
 use Rattle.layout.specs.Tidy.{Tidy}
 use Rattle.layout.proofs.CeilingLaws.{pass-tidy}
-use Rattle.layout.proofs.ChecksLaws.{answered-refused, answered-next, answered-done, answered-map}
+use Rattle.layout.proofs.ChecksLaws.{answered-refused, answered-next, answered-done, first-most, unless-most}
 use Rattle.layout.proofs.Says.{by-test, says-and, says-itself}
 use Rattle.layout.proofs.TidyLaws.{tidy-answered}
 use Rattle.desk.specs.Coherent.{coherent_b}
 use Rattle.desk.specs.Desk.{session_at, with_phase, put_session}
 use Rattle.desk.specs.Entering.{agrees_b, entry_fault, image_fault}
-use Rattle.desk.specs.Group.{member, store_fault, member_low, member_sealed, set_fault, published_below, group_fault, group_entries, grouped, group_reply, group_said}
+use Rattle.desk.specs.Group.{member, store_fault, set_fault, published_below, group_fault, group_entries, grouped, group_reply, group_said}
 use Rattle.desk.specs.Publish.{publish_refused}
+use Rattle.desk.specs.Replies.{storing_reply, given_by}
 use Rattle.desk.specs.Told.{publish_told}
 use Rattle.desk.specs.declared.state.Phase.TheVariants.{Published}
 use Rattle.desk.specs.declared.state.Session.{Session}
 use Rattle.desk.specs.declared.state.Desk.{Desk}
-use Rattle.desk.specs.declared.publish.PublishReply.{PublishReply}
-use Rattle.desk.specs.declared.group.Members.{Members}
+use Rattle.desk.specs.declared.reply.StoringReply.{StoringReply}
 use Rattle.desk.proofs.Facts.{says-coherent}
-
--- ---- the members, as the first pass has seen them
-
-abbrev pub seen_below : Desk → ℕ → ℕ → Members
-seen_below d set s =
-    record { some = any_below s (λ u. member u set); low = all_below s (member_low d set); sealed = all_below s (member_sealed d set) }
-
--- all sixteen
-pub set-seen : (d : Desk) (set : ℕ) {s k : ℕ} {x : Members} → s ≡ 16 → x ≡ seen_below d set s
-    → k ≡ first (unless x.some 19) (first (unless x.low 4) (unless x.sealed 6)) → k ≡ set_fault d set
-unfolding set_fault
-set-seen d set e q f = rw (q, e) at f
+use Rattle.desk.proofs.Entered.{entry-most}
+use Rattle.desk.proofs.ReplyLaws.{reply-whole}
+use Rattle.layout.proofs.ToldLaws.{told-by}
+use Rattle.layout.specs.Told.{ended_at}
+use native.Mathlib.Omega.{arith}
 
 -- ---- the second pass, at session s
 
@@ -73,7 +65,7 @@ store-checks img d len =
 
 -- ---- what it answers, and what it lists
 
-pub record Groups (img : List ℕ) (d : Desk) (len set : ℕ) (reply : PublishReply) (entries : List Entry) : Type 0 where
+pub record Groups (img : List ℕ) (d : Desk) (len set : ℕ) (reply : StoringReply ℕ) (entries : List Entry) : Type 0 where
   pub replies : group_reply img d len set ≡ reply
   pub lists : group_entries img d len set ≡ entries
 
@@ -110,15 +102,25 @@ module _ (img : List ℕ) (d : Desk) (len set : ℕ) where
           lists = answered-done _ _ (λ _. []) _ passed e;
         }
 
+  set-most : set_fault d set ≤ 20
+  unfolding set_fault
+  set-most = first-most 20 _ _ (unless-most 20 _ 19 (omega arith)) (first-most 20 _ _ (unless-most 20 _ 4 (omega arith)) (unless-most 20 _ 6 (omega arith)))
+
+  group-most : group_fault img d len set ≤ 20
+  unfolding group_fault
+  group-most = first-most 20 _ _ (omega (arith, store-checks img d len, entry-most img d (room_for len) 0)) set-most
+
   pub group-told : publish_told (group_reply img d len set).answer ≡ group_said img d len set
   unfolding group_reply group_said
-  group-told = answered-map (λ (r : PublishReply). publish_told r.answer) _ (publish_refused d) (grouped img d set) (λ k. refl) refl
+  group-told =
+      told-by (λ (r : StoringReply ℕ). r.answer) ended_at (group_fault img d len set) (publish_refused d) (grouped img d set) group-most (λ k. refl) refl
 
-  pub group-tells : {r : PublishReply} {I T : Type 0} → (r ≡ group_reply img d len set) × (I × T)
-      → (r ≡ group_reply img d len set) × (I × (T × (publish_told r.answer ≡ group_said img d len set)))
-  group-tells (e, (i, t)) = (e, (i, (t, rw e group-told)))
+  -- made again of its answer with the entries, and its desk
+  pub group-whole : storing_reply (given_by (group_reply img d len set)) (group_reply img d len set).desk ≡ group_reply img d len set
+  unfolding group_reply
+  group-whole = reply-whole (group_fault img d len set) (publish_refused d) (grouped img d set) (λ k. refl) refl
 
   pub group-tidy : Tidy (group_fault img d len set) (group_reply img d len set).entries (group_entries img d len set)
   unfolding group_reply group_entries
   group-tidy =
-      tidy-answered (λ (r : PublishReply). r.entries) (group_fault img d len set) (publish_refused d) _ _ (λ k. refl) (λ z. pass-tidy img (d.clock + 1))
+      tidy-answered (λ (r : StoringReply ℕ). r.entries) (group_fault img d len set) (publish_refused d) _ _ (λ k. refl) (λ z. pass-tidy img (d.clock + 1))

@@ -1,6 +1,6 @@
 -- The list of active sessions, as the code tests it: noted session by session, and struck out place by place.
 use Prim.Native.Nat.{ℕ, zero, suc, ◌<◌, ◌≤◌}
-use mathlib.Core.Bool.{true, cond, or-true}
+use mathlib.Core.Bool.{Bool, true, false, not, cond, or-true, false≢true}
 use mathlib.Core.List.{List, [], ◌∷◌}
 use mathlib.Core.Path.{◌≡◌, refl, sym, ap, ◌∙◌}
 use native.Mathlib.Nat.{not-suc-le-zero}
@@ -8,7 +8,7 @@ use native.Mathlib.Omega.{arith}
 use lib.Dec.{ltb, eqb}
 use lib.ListN.{get_or, set, length, length-set, length-replicate, get_or-replicate}
 use lib.Seq.{get_or-set_same, get_or-set_other}
-use borrow.Author.Tests.{lt-ltb, le-ltb, ltb-true, ltb-false, eqb-true, eqb-false}
+use borrow.Author.Tests.{lt-ltb, le-ltb, ltb-true, ltb-false, eqb-true, eqb-false, not-true}
 use Rattle.layout.specs.Below.{any_below}
 use Rattle.layout.proofs.Says.{Says, says-le, says-lt, says_eq, says-and, says_any, says-itself, says-not, by-test}
 use Rattle.desk.specs.declared.state.Desk.{Desk}
@@ -37,29 +37,33 @@ blank-at o (suc c) j =
 
 length-noted : (o : List ℕ) (j : ℕ) → length (noted_below o j) ≡ 16
 unfolding noted_below
-length-noted o zero = length-replicate {A = ℕ} 16 0
-length-noted o (suc j) = length-set (noted_below o j) (get_or o j 0) 1 ∙ length-noted o j
+length-noted o zero = length-replicate {A = Bool} 16 false
+length-noted o (suc j) = length-set (noted_below o j) (get_or o j 0) true ∙ length-noted o j
 
 -- a session is noted where a place below j has it
-noted-at : (o : List ℕ) (x : ℕ) → x < 16 → (j : ℕ) → get_or (noted_below o j) x 0 ≡ cond (any_below j (λ i. eqb (get_or o i 0) x)) 1 0
+noted-at : (o : List ℕ) (x : ℕ) → x < 16 → (j : ℕ) → get_or (noted_below o j) x false ≡ any_below j (λ i. eqb (get_or o i 0) x)
 unfolding noted_below any_below
-noted-at o x l zero = get_or-replicate {A = ℕ} 16 x 0 0 l
+noted-at o x l zero = get_or-replicate {A = Bool} 16 x false false l
 noted-at o x l (suc j) =
     by-test (eqb (get_or o j 0) x)
-    (λ t. rw (t, or-true (any_below j (λ i. eqb (get_or o i 0) x)), eqb-true (get_or o j 0) x t) (get_or-set_same (noted_below o j) x 1 0 (omega (arith, length-noted o j))))
-    (λ f. rw (f, or-false (any_below j (λ i. eqb (get_or o i 0) x))) (get_or-set_other (noted_below o j) (get_or o j 0) x 1 0 (λ q. eqb-false (get_or o j 0) x f (sym q)) ∙ noted-at o x l j))
+    (λ t. rw (t, or-true (any_below j (λ i. eqb (get_or o i 0) x)), eqb-true (get_or o j 0) x t) (get_or-set_same (noted_below o j) x true false (omega (arith, length-noted o j))))
+    (λ f. rw (f, or-false (any_below j (λ i. eqb (get_or o i 0) x))) (get_or-set_other (noted_below o j) (get_or o j 0) x true false (λ q. eqb-false (get_or o j 0) x f (sym q)) ∙ noted-at o x l j))
+
+-- a test that is false
+says-false : (b : Bool) → Says (not b) (b ≡ false)
+says-false b = record { yes = λ e. not-true b e; no = λ e. ap not e }
 
 module _ (d : Desk) where
   -- what `list_passes` says of place j
   abbrev pub Passes : ℕ → Type 0
   Passes j =
-      (order_at d j < 16) × ((get_or (noted_below d.order j) (order_at d j) 0 ≡ 0)
+      (order_at d j < 16) × ((get_or (noted_below d.order j) (order_at d j) false ≡ false)
       × ((active_at d (order_at d j) ≡ true) × (start_before d.sessions d.order j ≤ start_at d (order_at d j))))
 
   pub says-passes : (j : ℕ) → Says (list_passes d.sessions d.order j) (Passes j)
   says-passes j =
       says-and (says-lt (order_at d j) 16)
-      (says-and (says_eq (get_or (noted_below d.order j) (order_at d j) 0) 0)
+      (says-and (says-false (get_or (noted_below d.order j) (order_at d j) false))
       (says-and (says-itself (active_at d (order_at d j))) (says-le (start_before d.sessions d.order j) (start_at d (order_at d j)))))
 
   -- the sessions are in order, where all places pass and nothing is left
@@ -78,7 +82,7 @@ module _ (d : Desk) where
         let n = noted-at d.order (order_at d j) (pass j l).0 j in
         let t = (says_any j (λ i. says_eq (order_at d i) (order_at d j))).no (i, k, e) in
         let z = rw t at n in
-        omega (arith, (pass j l).1.0)
+        false≢true (sym (pass j l).1.0 ∙ z)
 
     pub to-order : InOrder (active_at d) (start_at d) (order_at d)
     to-order =

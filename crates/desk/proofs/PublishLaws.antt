@@ -14,11 +14,13 @@ use Rattle.layout.proofs.TidyLaws.{tidy-answered}
 use Rattle.desk.specs.Desk.{session_at, is_sealed}
 use Rattle.desk.specs.Entering.{image_fault}
 use Rattle.desk.specs.Publish.{publish_fault, publish_entries, publish_refused, published, publish_reply}
+use Rattle.desk.specs.Replies.{storing_reply, given_by}
 use Rattle.desk.specs.declared.state.Desk.{Desk}
-use Rattle.desk.specs.declared.publish.PublishReply.{PublishReply}
+use Rattle.desk.specs.declared.reply.StoringReply.{StoringReply}
+use Rattle.desk.proofs.ReplyLaws.{reply-whole}
 
 -- what publish answers, and what it lists
-pub record Publishes (img : List ℕ) (d : Desk) (len s : ℕ) (reply : PublishReply) (entries : List Entry) : Type 0 where
+pub record Publishes (img : List ℕ) (d : Desk) (len s : ℕ) (reply : StoringReply ℕ) (entries : List Entry) : Type 0 where
   pub replies : publish_reply img d len s ≡ reply
   pub lists : publish_entries img d len s ≡ entries
 
@@ -51,7 +53,12 @@ module _ (img : List ℕ) (d : Desk) (len s : ℕ) where
           lists = rw e (answered-done _ 0 (λ _. []) _ z refl);
         }
 
+-- the reply is made again of what it gives
+pub publish-whole : (img : List ℕ) (d : Desk) (len s : ℕ) → storing_reply (given_by (publish_reply img d len s)) (publish_reply img d len s).desk ≡ publish_reply img d len s
+unfolding publish_reply
+publish-whole img d len s = reply-whole (publish_fault img d len s) (publish_refused d) (published img d s) (λ k. refl) refl
+
 pub publish-tidy : (img : List ℕ) (d : Desk) (len s : ℕ) → Tidy (publish_fault img d len s) (publish_reply img d len s).entries (publish_entries img d len s)
 unfolding publish_reply publish_entries
 publish-tidy img d len s =
-    tidy-answered (λ (r : PublishReply). r.entries) (publish_fault img d len s) (publish_refused d) _ _ (λ k. refl) (λ z. pass-tidy img (d.clock + 1))
+    tidy-answered (λ (r : StoringReply ℕ). r.entries) (publish_fault img d len s) (publish_refused d) _ _ (λ k. refl) (λ z. pass-tidy img (d.clock + 1))

@@ -6,15 +6,10 @@ use mathlib.Core.List.{List}
 use native.Mathlib.Omega.{arith}
 use lib.Dec.{ltb}
 use borrow.Author.Tests.{ltb-true}
-use Rattle.layout.specs.Checks.{unless, first}
 use Rattle.layout.proofs.ChecksLaws.{first-both, unless-zero}
 use Rattle.desk.specs.declared.state.Desk.{Desk}
-use Rattle.desk.specs.Entering.{image_fault}
+use Rattle.desk.specs.Entering.{image_fault, record_fault}
 use Rattle.desk.proofs.Entered.{Entered, entered}
-
--- the number that these checks give
-abbrev pub record_fault : List ℕ → Desk → ℕ → ℕ → ℕ
-record_fault img d s r = first (image_fault img d true s) (unless (ltb r d.n) 5)
 
 pub record RecordEntered (img : List ℕ) (d : Desk) (s r : ℕ) : Type 0 where
   pub session : Entered img d true s

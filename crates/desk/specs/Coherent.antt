@@ -1,5 +1,5 @@
 -- Coherence (document 01, "The desk"), one small test for each of its rules.
-use Rattle.std.specs.Prelude.{ℕ, ◌+◌, ◌^◌, Bool, true, not, ◌&&◌, ◌||◌, cond, get_or, leb, ltb, eqb}
+use Rattle.std.specs.Prelude.{ℕ, ◌+◌, ◌^◌, Bool, true, not, ◌&&◌, ◌||◌, cond, get_or, leb, ltb, eqb, Option, Some, None}
 use Rattle.std.specs.Bool.{beq}
 use Rattle.layout.specs.Below.{all_below, any_below, count_below}
 use Rattle.desk.specs.Desk.{copy_at, session_at, mark_at, order_at, is_idle, is_sealed, start_at, active_at, active_count}
@@ -111,6 +111,6 @@ list_ok d = all_below 16 (holds_b d) && all_below 16 (once_b d) && all_below 16 
 unfoldable pub coherent_b : Desk → Bool
 coherent_b d = sizes_ok d && (all_below 16 (entry_ok d) && (all_below 256 (mark_ok d) && list_ok d))
 
--- how many sessions of a coherent desk are active; 17 of any other desk
-unfoldable pub census_of : Desk → ℕ
-census_of d = cond (coherent_b d) (active_count d) 17
+-- how many sessions of a coherent desk are active; none of any other desk
+unfoldable pub census_of : Desk → Option ℕ
+census_of d = cond (coherent_b d) (Some (active_count d)) None

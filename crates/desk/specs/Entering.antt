@@ -1,5 +1,5 @@
 -- The first checks of a session call (document 01, "What is turned away"), lowest number first.
-use Rattle.std.specs.Prelude.{ℕ, Bool, ◌&&◌, List, leb, ltb, eqb}
+use Rattle.std.specs.Prelude.{ℕ, Bool, true, ◌&&◌, List, leb, ltb, eqb}
 use Rattle.layout.specs.Checks.{unless, first}
 use Rattle.layout.specs.Image.{records_of, sessions_of, ceiling_of, shaped_b}
 use Rattle.desk.specs.Coherent.{coherent_b}
@@ -24,3 +24,7 @@ entry_fault img coherent clock n m room s =
 
 abbrev pub image_fault : List ℕ → Desk → Bool → ℕ → ℕ
 image_fault img d room s = entry_fault img (coherent_b d) d.clock d.n d.m room s
+
+-- of a call with an image and a record, and no trace: then 5, the record is at or above N
+abbrev pub record_fault : List ℕ → Desk → ℕ → ℕ → ℕ
+record_fault img d s r = first (image_fault img d true s) (unless (ltb r d.n) 5)

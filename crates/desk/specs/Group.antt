@@ -13,7 +13,7 @@ use Rattle.desk.specs.Publish.{end_entries, publish_refused, ends, end_said}
 use Rattle.desk.specs.declared.state.Phase.TheVariants.{Published}
 use Rattle.desk.specs.declared.state.Session.{Session}
 use Rattle.desk.specs.declared.state.Desk.{Desk}
-use Rattle.desk.specs.declared.publish.PublishReply.{PublishReply}
+use Rattle.desk.specs.declared.reply.StoringReply.{StoringReply}
 
 -- session s is in the set: bit s, which is worth 2 to the s. There are sixteen.
 unfoldable pub member : ℕ → ℕ → Bool
@@ -50,10 +50,10 @@ published_below xs set e (suc s) =
     let ys = published_below xs set e s in cond (member s set) (put ys s (with_phase (get_or ys s no_session) (Published e))) ys
 
 -- all members published, with the copies that they had
-abbrev pub grouped : List ℕ → Desk → ℕ → PublishReply
+abbrev pub grouped : List ℕ → Desk → ℕ → StoringReply ℕ
 grouped img d set = ends img d (published_below d.sessions set (d.clock + 1) 16)
 
-unfoldable pub group_reply : List ℕ → Desk → ℕ → ℕ → PublishReply
+unfoldable pub group_reply : List ℕ → Desk → ℕ → ℕ → StoringReply ℕ
 group_reply img d len set = answered (group_fault img d len set) (publish_refused d) (grouped img d set)
 
 unfoldable pub group_said : List ℕ → Desk → ℕ → ℕ → Told

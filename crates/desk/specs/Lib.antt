@@ -1,6 +1,8 @@
 pub mod Desk
 pub mod Coherent
 pub mod Strike
+pub mod Struck
+pub mod Replies
 pub mod Entering
 pub mod Begin
 pub mod Abandon

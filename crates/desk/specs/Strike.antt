@@ -1,6 +1,6 @@
 -- What the code goes by: each copy's mark is struck out of a copy of the holders, each place in use out of a copy of the list, and nothing
 -- may be left.
-use Rattle.std.specs.Prelude.{ℕ, zero, suc, ◌+◌, Bool, true, not, ◌&&◌, ◌||◌, cond, List, get_or, set, replicate, leb, ltb, eqb}
+use Rattle.std.specs.Prelude.{ℕ, zero, suc, ◌+◌, Bool, true, false, not, ◌&&◌, ◌||◌, cond, List, get_or, set, replicate, leb, ltb, eqb}
 use Rattle.layout.specs.Below.{all_below, count_below}
 use Rattle.desk.specs.Desk.{no_session, copy_at, session_at, is_idle, is_active, start_of, active_count}
 use Rattle.desk.specs.Coherent.{sealed_at, count_ok, number_ok, slot_ok, zero_copy_b, limit}
@@ -60,9 +60,13 @@ quiet e =
     eqb e.count 0 && eqb e.slot 0 && zero_copy_b (copy_at e 0) && zero_copy_b (copy_at e 1) && zero_copy_b (copy_at e 2)
     && zero_copy_b (copy_at e 3)
 
+-- where it is idle, it is quiet
+abbrev pub quiet_b : Session → Bool
+quiet_b e = not (is_idle e.phase) || quiet e
+
 -- an idle entry of the desk is quiet
 abbrev pub quiet_at : Desk → ℕ → Bool
-quiet_at d s = not (is_idle (session_at d s).phase) || quiet (session_at d s)
+quiet_at d s = quiet_b (session_at d s)
 
 -- place k is 0: no mark is left there, or no session
 abbrev pub zero_at : List ℕ → ℕ → Bool
@@ -74,9 +78,9 @@ sizes_pass d =
     leb 1 d.clock && leb d.clock (limit + 16) && (leb 1 d.n && leb d.n 256) && (leb 1 d.m && leb d.m 16)
 
 -- the list of active sessions: those that its places below j have are noted
-unfoldable pub noted_below : List ℕ → ℕ → List ℕ
-noted_below o zero = replicate 16 0
-noted_below o (suc j) = set (noted_below o j) (get_or o j 0) 1
+unfoldable pub noted_below : List ℕ → ℕ → List Bool
+noted_below o zero = replicate 16 false
+noted_below o (suc j) = set (noted_below o j) (get_or o j 0) true
 
 -- and the places below j are struck out
 unfoldable pub blank_below : List ℕ → ℕ → List ℕ
@@ -95,7 +99,7 @@ start_before es o (suc j) = start_of (phase_listed es o j)
 -- place j of the list passes: its session is not noted yet, is active, and its start does not fall
 abbrev pub list_passes : List Session → List ℕ → ℕ → Bool
 list_passes es o j =
-    ltb (get_or o j 0) 16 && (eqb (get_or (noted_below o j) (get_or o j 0) 0) 0
+    ltb (get_or o j 0) 16 && (not (get_or (noted_below o j) (get_or o j 0) false)
     && (is_active (phase_listed es o j) && leb (start_before es o j) (start_of (phase_listed es o j))))
 
 -- the code's test: as many places of the list pass as sessions are active, and nothing is left of the holders and of the list

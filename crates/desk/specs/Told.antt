@@ -1,20 +1,13 @@
 -- What each answer of begin, abandon and publish, of one session or of a set, tells.
-use Rattle.layout.specs.Told.{Told, refusal, ok, start, ended_at}
-use Rattle.desk.specs.declared.begin.BeginAnswer.{BeginAnswer}
-use Rattle.desk.specs.declared.begin.BeginAnswer.TheVariants.{Refused as BeginRefused, Start}
-use Rattle.desk.specs.declared.abandon.AbandonAnswer.{AbandonAnswer}
-use Rattle.desk.specs.declared.abandon.AbandonAnswer.TheVariants.{Refused as AbandonRefused, Ok}
-use Rattle.desk.specs.declared.publish.PublishAnswer.{PublishAnswer}
-use Rattle.desk.specs.declared.publish.PublishAnswer.TheVariants.{Refused as PublishRefused, End}
+use Rattle.std.specs.Prelude.{ℕ, ⊤}
+use Rattle.layout.specs.Refusal.{Answer}
+use Rattle.layout.specs.Told.{Told, tells, ok, start, ended_at}
 
-abbrev pub begin_told : BeginAnswer → Told
-begin_told (BeginRefused k) = refusal k
-begin_told (Start b) = start b
+abbrev pub begin_told : Answer ℕ → Told
+begin_told = tells start
 
-abbrev pub abandon_told : AbandonAnswer → Told
-abandon_told (AbandonRefused k) = refusal k
-abandon_told Ok = ok
+abbrev pub abandon_told : Answer ⊤ → Told
+abandon_told = tells (λ x. ok)
 
-abbrev pub publish_told : PublishAnswer → Told
-publish_told (PublishRefused k) = refusal k
-publish_told (End e) = ended_at e
+abbrev pub publish_told : Answer ℕ → Told
+publish_told = tells ended_at

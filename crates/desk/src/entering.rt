@@ -1,21 +1,15 @@
-// The first checks of a session call: the lowest refusal number, or 0 where there is none. For the calls with an image, which the crates
-// above have, these are public too.
-ghost use Rattle.std.specs.Prelude.{true, ◌≡◌, ltb};
-ghost use Rattle.layout.specs.Checks.{first, unless};
-ghost use Rattle.desk.specs.Entering.{session_fault, entry_fault};
+// The first checks of a session call, in the order of their numbers, as methods of the desk; public for the crates above.
+ghost use Rattle.std.specs.Prelude.{◌≡◌, ◌<◌, OnOk};
+ghost use Rattle.layout.specs.Refusal.{answer_of};
+ghost use Rattle.desk.specs.Desk.{active_count};
+ghost use Rattle.desk.specs.Entering.{entry_fault, desk_fault, image_fault, record_fault};
 
-// Refusal 2 or 4 of a call without an image.
-pub fn session_fault(coherent: bool, m: u64, session: u64) -> u64
-    ensures { result ≡ session_fault coherent m session }
-{
-    if !coherent {
-        return 2;
-    }
-    if session < m { 0 } else { 4 }
-}
+use crate::state::Desk;
+use layout::Refusal;
 
 // Refusal 1, 2, 3 or 4 of a call with an image, for a desk with this clock, N and M that is coherent by itself or not.
-pub fn entry_fault(
+#[tactic(auto, unfolding(crate::specs::Entering::entry_fault, layout::specs::Checks::first, layout::specs::Checks::answered, layout::specs::Refusal::cause))]
+pub fn check_entry(
     image: &[u64],
     coherent: bool,
     clock: u64,
@@ -23,39 +17,72 @@ pub fn entry_fault(
     m: u64,
     room: bool,
     session: u64,
-) -> u64
-    ensures { result ≡ entry_fault image.now coherent clock n m room session }
+) -> Result<(), Refusal>
+    ensures { result ≡ answer_of (entry_fault image.now coherent clock n m room session) tt }
 {
     if !layout::shaped(image) {
-        return 1;
+        return Err(Refusal::WrongImage);
     }
-    let records = layout::word(image, 1);
-    let sessions = layout::word(image, 2);
-    let ceiling = layout::word(image, 3);
-    if !(coherent & ((n == records) & (m == sessions) & (clock <= ceiling))) {
-        return 2;
+    let agrees = n == layout::word(image, 1)
+        && m == layout::word(image, 2)
+        && clock <= layout::word(image, 3);
+    if !(coherent && agrees) {
+        return Err(Refusal::Incoherent);
     }
     if !room {
-        return 3;
+        return Err(Refusal::ShortTrace);
     }
-    if session < m { 0 } else { 4 }
+    if session < m {
+        Ok(())
+    } else {
+        Err(Refusal::NoSession)
+    }
 }
 
-// The same of a call that takes a record and no trace, and then refusal 5.
-pub fn record_fault(
-    image: &[u64],
-    coherent: bool,
-    clock: u64,
-    n: u64,
-    m: u64,
-    session: u64,
-    rec: u64,
-) -> u64
-    ensures { result ≡ first (entry_fault image.now coherent clock n m true session) (unless (ltb rec n) 5) }
-{
-    let fault = entry_fault(image, coherent, clock, n, m, true, session);
-    if fault != 0 {
-        return fault;
+impl Desk {
+    // Refusal 2 or 4 of a call without an image; or how many sessions are active.
+    pub fn entered_alone(&self, session: u64) -> Result<usize, Refusal>
+        ensures answer { result ≡ answer_of (desk_fault self.now session) (active_count self.now) }
+        ensures inside { OnOk result (session < 16) }
+    {
+        let Some(active) = self.census() else {
+            return Err(Refusal::Incoherent);
+        };
+        if session < self.m {
+            Ok(active)
+        } else {
+            Err(Refusal::NoSession)
+        }
     }
-    if rec < n { 0 } else { 5 }
+
+    // Refusal 1, 2, 3 or 4 of a call with an image; or how many sessions are active.
+    pub fn entered(&self, image: &[u64], room: bool, session: u64) -> Result<usize, Refusal>
+        ensures answer { result ≡ answer_of (image_fault image.now self.now room session) (active_count self.now) }
+        ensures inside { OnOk result (session < 16) }
+    {
+        let active = self.census();
+        check_entry(
+            image,
+            active.is_some(),
+            self.clock,
+            self.n,
+            self.m,
+            room,
+            session,
+        )?;
+        active.ok_or(Refusal::Incoherent)
+    }
+
+    // The same of a call that takes a record and no trace, and then refusal 5.
+    pub fn entered_record(&self, image: &[u64], session: u64, rec: u64) -> Result<usize, Refusal>
+        ensures answer { result ≡ answer_of (record_fault image.now self.now session rec) (active_count self.now) }
+        ensures inside { OnOk result ((session < 16) × (rec < 256)) }
+    {
+        let active = self.entered(image, true, session)?;
+        if rec < self.n {
+            Ok(active)
+        } else {
+            Err(Refusal::NoRecord)
+        }
+    }
 }

@@ -8,15 +8,12 @@ mod coherence;
 mod entering;
 mod group;
 mod publish;
+mod reply;
 mod session;
 mod state;
 
-pub use abandon::{AbandonAnswer, AbandonReply};
-pub use begin::{BeginAnswer, BeginReply};
-pub use coherence::{INCOHERENT, LIMIT, census};
-pub use entering::{entry_fault, record_fault};
-pub use publish::{PublishAnswer, PublishReply};
-pub use session::{
-    idle_session, is_active, is_published, is_sealed, leave, start_of, unmark, with_phase,
-};
+pub use coherence::LIMIT;
+pub use entering::check_entry;
+pub use reply::{Reply, StoringReply};
+pub use session::{leave, unmark};
 pub use state::{Desk, Phase, RecordCopy, Session};

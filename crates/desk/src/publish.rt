@@ -3,38 +3,46 @@
 ghost use Rattle.std.specs.Prelude.{◌≡◌, length};
 ghost use Rattle.layout.specs.Entries.{made, listed};
 ghost use Rattle.desk.specs.Publish.{publish_entries, publish_reply, publish_said};
+ghost use Rattle.desk.specs.Replies.{given_by};
 ghost use Rattle.desk.specs.Told.{publish_told};
 
-use crate::coherence::{INCOHERENT, census};
-use crate::entering::entry_fault;
-use crate::session::{is_sealed, with_phase};
+use crate::reply::StoringReply;
 use crate::state::{Desk, Phase};
-
-#[derive(Clone, Copy)]
-pub enum PublishAnswer {
-    Refused(u64),
-    End(u64),
-}
-
-#[derive(Clone, Copy)]
-pub struct PublishReply {
-    pub answer: PublishAnswer,
-    pub entries: u64,
-    pub desk: Desk,
-}
-
-pub fn gives(desk: Desk, answer: PublishAnswer, entries: u64) -> PublishReply
-    ensures { result ≡ record { answer = answer; entries = entries; desk = desk } }
-{
-    PublishReply {
-        answer: answer,
-        entries: entries,
-        desk: desk,
-    }
-}
+use layout::Refusal;
 
 impl Desk {
-    pub fn publish(mut self, image: &mut [u64], trace: &mut [u64], session: u64) -> PublishReply
+    // The end, and the number of entries.
+    fn publish_session(
+        &mut self,
+        image: &mut [u64],
+        trace: &mut [u64],
+        session: u64,
+    ) -> Result<(u64, u64), Refusal>
+        ensures given { result ≡ given_by (publish_reply image.old self.old (length trace.old) session) }
+        ensures desk { self.new ≡ (publish_reply image.old self.old (length trace.old) session).desk }
+        ensures image { image.new
+            ≡ made (publish_entries image.old self.old (length trace.old) session) image.old }
+        ensures trace { trace.new
+            ≡ listed (publish_entries image.old self.old (length trace.old) session) trace.old }
+    {
+        self.entered(image, 48 <= trace.len(), session)?;
+        let i = session as usize;
+        if !self.sessions[i].phase.is_sealed() {
+            return Err(Refusal::WrongPhase);
+        }
+        let end = self.clock + 1;
+        let entries = layout::raise_past(image, trace, end);
+        self.clock = end;
+        self.sessions[i].phase = Phase::Published(end);
+        Ok((end, entries))
+    }
+
+    pub fn publish(
+        mut self,
+        image: &mut [u64],
+        trace: &mut [u64],
+        session: u64,
+    ) -> StoringReply<u64>
         ensures reply { result ≡ publish_reply image.old self (length trace.old) session }
         ensures image { image.new
             ≡ made (publish_entries image.old self (length trace.old) session) image.old }
@@ -42,33 +50,7 @@ impl Desk {
             ≡ listed (publish_entries image.old self (length trace.old) session) trace.old }
         ensures told { publish_told result.answer ≡ publish_said image.old self (length trace.old) session }
     {
-        let active = census(self);
-        let clock = self.clock;
-        let n = self.n;
-        let m = self.m;
-        let fault = entry_fault(
-            image,
-            active < INCOHERENT,
-            clock,
-            n,
-            m,
-            48 <= trace.len(),
-            session,
-        );
-        if fault != 0 {
-            return gives(self, PublishAnswer::Refused(fault), 0);
-        }
-        let i = session as usize;
-        let e = self.sessions[i];
-        let p = e.phase;
-        if !is_sealed(p) {
-            return gives(self, PublishAnswer::Refused(6), 0);
-        }
-        let end = clock + 1;
-        let entries = layout::raise_past(image, trace, end);
-        let published = with_phase(e, Phase::Published(end));
-        self.clock = end;
-        self.sessions[i] = published;
-        gives(self, PublishAnswer::End(end), entries)
+        let given = self.publish_session(image, trace, session);
+        StoringReply::of(given, self)
     }
 }

@@ -2,23 +2,10 @@
 // operating system answers is its to hand on: how many bytes a read brought, 0 at the end of the input and where a read fails.
 #![tactic(auto)]
 
-ghost use Rattle.std.specs.Prelude.{◌≡◌, ◌+◌, ◌≤◌, length, drop};
-ghost use Rattle.std.proofs.Math.Seq.{paste};
+ghost use Rattle.std.specs.Prelude.{◌≤◌, length};
 ghost use Rattle.feed.specs.Feed.{Refilled};
 
 use std::io::{Read, Stdin};
-
-// Moves the n bytes from `from` on to the start.
-fn shift(buf: &mut [u8], from: usize, n: usize)
-    requires { from + n ≤ length buf.old }
-    ensures { buf.new ≡ paste buf.old 0 (drop from buf.old) n }
-{
-    let mut j: usize = 0;
-    while j < n {
-        buf[j] = buf[from + j];
-        j += 1;
-    }
-}
 
 // Moves the bytes held, from `at` to `have`, to the start and reads once behind them; the answer is how many bytes came.
 pub fn refill(mut stdin: Stdin, buf: &mut [u8], at: usize, have: usize) -> usize
@@ -26,23 +13,17 @@ pub fn refill(mut stdin: Stdin, buf: &mut [u8], at: usize, have: usize) -> usize
     ensures { Refilled buf.old at have buf.new result }
 {
     let left = have - at;
-    shift(buf, at, left);
-    match stdin.read(&mut buf[left..]) {
-        Ok(came) => came,
-        Err(_) => 0,
-    }
+    buf.copy_within(at..have, 0);
+    stdin.read(&mut buf[left..]).unwrap_or(0)
 }
 
 // Reads until the buffer is full, the input ends or a read fails; the answer is how many bytes came, which stand first.
 pub fn read_full(mut stdin: Stdin, buf: &mut [u8]) -> usize
     ensures { result ≤ length buf.new }
 {
-    let mut have: usize = 0;
+    let mut have = 0;
     while have < buf.len() {
-        let came = match stdin.read(&mut buf[have..]) {
-            Ok(n) => n,
-            Err(_) => 0,
-        };
+        let came = stdin.read(&mut buf[have..]).unwrap_or(0);
         if came == 0 {
             break;
         }

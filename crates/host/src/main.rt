@@ -7,23 +7,17 @@ fn carry_out(trace: &[u64], entries: u64) {}
 fn main() {
     let mut image: [u64; 52] = [0; 52];
     let mut trace: [u64; 48] = [0; 48];
-    store::lay(&mut image, 1, 1);
+    let _ = store::lay(&mut image, 1, 1);
     let o = store::open(&mut image, &mut trace);
     carry_out(&trace, o.entries);
-    let desk = o.desk;
-    let b = desk.begin(0);
-    let desk = b.desk;
-    let w = store::write(&image, desk, 0, 0, [5, 6, 7, 8]);
-    let desk = w.desk;
-    let f = store::finish(&mut image, desk, &mut trace, 0);
+    let b = o.desk.begin(0);
+    let w = store::write(&image, b.desk, 0, 0, [5, 6, 7, 8]);
+    let f = store::finish(&mut image, w.desk, &mut trace, 0);
     carry_out(&trace, f.entries);
-    let desk = f.desk;
-    let p = desk.publish(&mut image, &mut trace, 0);
+    let p = f.desk.publish(&mut image, &mut trace, 0);
     carry_out(&trace, p.entries);
-    let desk = p.desk;
-    let s = store::settle(&mut image, desk, &mut trace, 0);
+    let s = store::settle(&mut image, p.desk, &mut trace, 0);
     carry_out(&trace, s.entries);
-    let desk = s.desk;
-    let r = store::reclaim(&mut image, desk, &mut trace, 0);
+    let r = store::reclaim(&mut image, s.desk, &mut trace, 0);
     carry_out(&trace, r.entries);
 }

@@ -2,20 +2,17 @@
 use Prim.Native.Nat.{ℕ, zero, suc, ◌+◌, ◌*◌, ◌≤◌, ◌<◌}
 use mathlib.Core.Bool.{cond}
 use mathlib.Core.Path.{◌≡◌, refl, sym, ap, ◌∙◌}
-use mathlib.Core.List.{List, [], ◌∷◌, ◌++◌, append-nil}
+use mathlib.Core.List.{List, [], ◌++◌, append-nil}
 use native.Mathlib.Omega.{arith}
 use native.Mathlib.Decide.{ℕ_discrete}
 use lib.ListN.{length, get_or, length-append}
 use lib.Dec.{eqb}
 use borrow.Author.Tests.{eq-eqb, ne_eqb, eqb-true}
-use Rattle.layout.specs.Entries.{Write, stores, encoded}
-use Rattle.layout.specs.Trace.{written}
+use Rattle.layout.specs.Entries.{Write}
 use Rattle.layout.specs.Homes.{Differ}
-use Rattle.layout.proofs.Groups.{Ascending, ascending-append, stores-append, length-stores}
+use Rattle.layout.proofs.Groups.{Ascending, ascending-append}
 use Rattle.layout.proofs.Says.{by-test}
-use Rattle.layout.proofs.TraceLaws.{written-append, written_listed}
-use Rattle.journal.specs.Changes.{change_at, changes_in, changes_of, changes_below, Noted}
-use Rattle.journal.specs.Log.{index_in, word_in}
+use Rattle.journal.specs.Changes.{change_at, changes_in, changes_of, changes_below}
 
 -- ---- one record
 
@@ -143,37 +140,3 @@ changes-same home home' rec rec' words words' c a b h = below
     below : (n : ℕ) → changes_below home rec words c n ≡ changes_below home' rec' words' c n
     below zero = refl
     below (suc n) = rw (below n, of-same n c (omega arith)) refl
-
--- ---- changes put into an array
-
-pub noted-none : {k : ℕ} {p : List ℕ} → Noted [] k p p k
-noted-none = record { lists = refl; next = omega arith }
-
-pub noted-then : {xs ys : List Write} {k a b : ℕ} {p p₁ p₂ : List ℕ} → Noted xs k p p₁ a → Noted ys a p₁ p₂ b → Noted (xs ++ ys) k p p₂ b
-noted-then {xs} {ys} {k} {a} {b} {p} {p₁} {p₂} m n =
-    let e : 2 * a ≡ 2 * k + 2 * length (stores xs) = omega (arith, m.next, length-stores xs) in
-    record {
-      lists =
-          n.lists
-          ∙ ap (written (2 * a) (stores ys)) m.lists
-          ∙ ap (λ i. written i (stores ys) (written (2 * k) (stores xs) p)) e
-          ∙ sym (ap (λ es. written (2 * k) es p) (stores-append xs ys) ∙ written-append (2 * k) (stores xs) (stores ys) p);
-      next = omega (arith, m.next, n.next, length-append xs ys);
-    }
-
--- and read back from its beginning
-pair-at : (ws : List Write) (rest : List ℕ) (j : ℕ) → j < length ws
-    → (get_or (encoded (stores ws) ++ rest) (2 * j) 0 ≡ index_in ws j) × (get_or (encoded (stores ws) ++ rest) (2 * j + 1) 0 ≡ word_in ws j)
-pair-at [] rest j l = absurd (omega arith)
-pair-at (x ∷ ws) rest zero l = (refl, refl)
-pair-at (x ∷ ws) rest (suc j) l =
-    let h = pair-at ws rest j (omega arith) in
-    let a : 2 * suc j ≡ suc (suc (2 * j)) = omega arith in
-    let b : 2 * suc j + 1 ≡ suc (suc (2 * j + 1)) = omega arith in
-    (ap (λ i. get_or (encoded (stores (x ∷ ws)) ++ rest) i 0) a ∙ h.0, ap (λ i. get_or (encoded (stores (x ∷ ws)) ++ rest) i 0) b ∙ h.1)
-
-pub noted-pair : {ws : List Write} {p p' : List ℕ} {k : ℕ} → Noted ws 0 p p' k → 2 * length ws ≤ length p → (j : ℕ) → j < length ws
-    → (get_or p' (2 * j) 0 ≡ index_in ws j) × (get_or p' (2 * j + 1) 0 ≡ word_in ws j)
-noted-pair {ws} {p} {p'} {k} n l j m =
-    let e = n.lists ∙ written_listed (stores ws) p (omega (arith, length-stores ws)) in
-    rw e (pair-at ws _ j m)

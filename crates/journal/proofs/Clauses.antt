@@ -5,11 +5,5 @@ count_bound-by_index (a, b) = record { count_bound = a; by_index = b }
 pub did-upper_bound : {A B : Type 0} → A × B → record { did : A; upper_bound : B }
 did-upper_bound (a, b) = record { did = a; upper_bound = b }
 
-pub did-value : {A B : Type 0} → A × B → record { did : A; value : B }
-did-value (a, b) = record { did = a; value = b }
-
 pub image-trace : {A B : Type 0} → A × B → record { image : A; trace : B }
 image-trace (a, b) = record { image = a; trace = b }
-
-pub noted-upper_bound : {A B : Type 0} → A × B → record { noted : A; upper_bound : B }
-noted-upper_bound (a, b) = record { noted = a; upper_bound = b }

@@ -5,16 +5,17 @@ use mathlib.Core.Path.{◌≡◌, refl, sym, ap, ◌∙◌}
 use mathlib.Core.Logic.{inl, inr}
 use mathlib.Core.List.{List, [], ◌∷◌}
 use native.Mathlib.Omega.{arith}
-use native.Mathlib.Decide.{ℕ_discrete}
-use lib.ListN.{length, get_or, set}
-use lib.Seq.{get_or-set_same, get_or-set_other}
+use lib.ListN.{length, get_or, take}
+use Rattle.std.proofs.lemmas.List.{get_or-take}
+use Rattle.layout.specs.Entries.{Write}
 use Rattle.layout.proofs.Groups.{homes_same, Ascending, Distinct, ascending-append, ascending-distinct, homes-distinct, length-homes}
 use Rattle.layout.proofs.Says.{by-test}
 use Rattle.journal.specs.Lengths.{replay_length}
 use Rattle.layout.specs.Homes.{homes_writes}
 use Rattle.desk.specs.Desk.{no_copy}
 use Rattle.desk.specs.declared.state.RecordCopy.{RecordCopy}
-use Rattle.journal.specs.Log.{unsound_b, Slot, count_of, rec_of, words_of, short_b, pairs_of, index_of, word_of, pairs_writes, denoted, Sound, SoundFull, SoundShort}
+use Rattle.journal.specs.Copies.{rec_in, words_in}
+use Rattle.journal.specs.Log.{unsound_b, Slot, count_of, rec_of, words_of, short_b, pairs_of, index_of, word_of, index_in, word_in, pairs_writes, denoted, Sound, SoundFull, SoundShort}
 use Rattle.journal.proofs.LengthLaws.{recover-formula}
 use Rattle.journal.proofs.LogFacts.{sound-of, short-test, full-test, denotes-short, denotes-full}
 use Rattle.journal.proofs.LogGroups.{length_pairs}
@@ -59,15 +60,6 @@ replay-counted n f (inr s) = rw (denoted-length f, short-test f s.is-short) refl
 
 -- ---- a log read into arrays
 
--- one more word of an array
-pub set_more : (p : List ℕ) (w x : ℕ) (f : ℕ → ℕ) → w < length p → x ≡ f w → ((v : ℕ) → v < w → get_or p v 0 ≡ f v)
-    → (v : ℕ) → v < w + 1 → get_or (set p w x) v 0 ≡ f v
-set_more p w x f l e h v m = go (ℕ_discrete v w)
-  where
-    go : Dec (v ≡ w) → get_or (set p w x) v 0 ≡ f v
-    go (yes q) = rw q (get_or-set_same p w x 0 l ∙ e)
-    go (no n) = get_or-set_other p w v x 0 n ∙ h v (omega arith)
-
 -- the form of an occupied slot that check 12 passes
 pub short-of : (n : ℕ) (f : Slot) → unsound_b n f ≡ false → (f 0 ≡ 0 → ⊥) → short_b f ≡ true → SoundShort n f
 short-of n f u o t = go (sound-of n f u o)
@@ -91,19 +83,22 @@ pairs-same index index' word word' (suc k) h =
     rw (pairs-same index index' word word' k (λ j l. h j (omega arith)), (h k (omega arith)).0, (h k (omega arith)).1) refl
 
 -- its pairs, and its copies, are what it denotes
-pub pairs-read : {n : ℕ} (f : Slot) → SoundShort n f → (pairs : List ℕ) (k : ℕ) → k ≡ pairs_of f → ((w : ℕ) → w < 18 → get_or pairs w 0 ≡ f (2 + w))
-    → pairs_writes (λ j. get_or pairs (2 * j) 0) (λ j. get_or pairs (2 * j + 1) 0) k ≡ denoted f
-pairs-read f s pairs k e h =
-    pairs-same _ (index_of f) _ (word_of f) k
-    (λ j l. (h (2 * j) (omega (arith, e, s.few)), h (2 * j + 1) (omega (arith, e, s.few)) ∙ ap f (let z : 2 + (2 * j + 1) ≡ 2 + 2 * j + 1 = omega arith in z)))
+pub pairs-read : {n : ℕ} (f : Slot) → SoundShort n f → (pairs : List Write) (k : ℕ) → k ≡ pairs_of f
+    → ((j : ℕ) → j < 9 → get_or pairs j (0, 0) ≡ (index_of f j, word_of f j)) → length (take k pairs) ≡ k
+    → pairs_writes (index_in (take k pairs)) (word_in (take k pairs)) (length (take k pairs)) ≡ denoted f
+pairs-read f s pairs k e h z =
+    ap (pairs_writes (index_in (take k pairs)) (word_in (take k pairs))) z
+    ∙ pairs-same _ (index_of f) _ (word_of f) k
+    (λ j m. let q = get_or-take k pairs j (0, 0) m ∙ h j (omega (arith, e, s.few)) in (ap (λ (w : Write). w.0) q, ap (λ (w : Write). w.1) q))
     ∙ ap (pairs_writes (index_of f) (word_of f)) e
     ∙ sym (denotes-short f s.is-short)
 
 pub copies-read : {n : ℕ} (f : Slot) → SoundFull n f → (copies : List RecordCopy) (c : ℕ) → c ≡ count_of f
-    → ((j : ℕ) → j < 4 → get_or copies j no_copy ≡ record { rec = rec_of f j; words = words_of f j })
-    → homes_writes (λ j. (get_or copies j no_copy).rec) (λ j. (get_or copies j no_copy).words) c ≡ denoted f
-copies-read f s copies c e h =
-    homes_same (λ j. (get_or copies j no_copy).rec) (rec_of f) (λ j. (get_or copies j no_copy).words) (words_of f) c
-    (λ j l. let k = h j (omega (arith, e, s.at_most)) in (ap (λ (x : RecordCopy). x.rec) k, ap (λ (x : RecordCopy). x.words) k))
+    → ((j : ℕ) → j < 4 → get_or copies j no_copy ≡ record { rec = rec_of f j; words = words_of f j }) → length (take c copies) ≡ c
+    → homes_writes (rec_in (take c copies)) (words_in (take c copies)) (length (take c copies)) ≡ denoted f
+copies-read f s copies c e h z =
+    ap (homes_writes (rec_in (take c copies)) (words_in (take c copies))) z
+    ∙ homes_same (rec_in (take c copies)) (rec_of f) (words_in (take c copies)) (words_of f) c
+    (λ j l. let k = get_or-take c copies j no_copy l ∙ h j (omega (arith, e, s.at_most)) in (ap (λ (x : RecordCopy). x.rec) k, ap (λ (x : RecordCopy). x.words) k))
     ∙ ap (homes_writes (rec_of f) (words_of f)) e
     ∙ sym (denotes-full f (omega (arith, s.at_most)))

@@ -1,9 +1,13 @@
+pub mod AnyLaws
+pub mod ChangesLaws
+pub mod Clauses
+pub mod DenotedLaws
+pub mod FilledLaws
+pub mod FilterLaws
+pub mod GatheredLaws
 pub mod LengthLaws
 pub mod LogFacts
 pub mod LogGroups
 pub mod Positions
-pub mod ChangesLaws
-pub mod GatheredLaws
-pub mod DenotedLaws
+pub mod TakenLaws
 pub mod WalkLaws
-pub mod Clauses

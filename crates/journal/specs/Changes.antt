@@ -1,8 +1,7 @@
--- The words of copies that differ from the home records, in ascending index (document 02, Req 08), and the contracts of the helpers that
--- gather them in one pass.
-use Rattle.std.specs.Prelude.{ℕ, zero, suc, ◌+◌, ◌*◌, ◌≤◌, true, ◌&&◌, cond, ◌≡◌, List, [], ◌∷◌, ◌++◌, length, get_or, leb, ltb, eqb}
-use Rattle.layout.specs.Entries.{Write, stores}
-use Rattle.layout.specs.Trace.{written}
+-- The words of copies that differ from the home records, in ascending index (document 02, Req 08), and the contract of the one pass that
+-- gathers them.
+use Rattle.std.specs.Prelude.{ℕ, zero, suc, ◌+◌, ◌*◌, ◌≤◌, true, cond, ◌≡◌, List, [], ◌∷◌, ◌++◌, length, get_or, ltb, eqb}
+use Rattle.layout.specs.Entries.{Write}
 
 -- a home word at index i, and the word that it is to have: nothing where they are equal, else index and new word
 abbrev pub change_at : ℕ → ℕ → ℕ → List Write
@@ -27,17 +26,8 @@ changes_below home rec words c (suc r) = changes_below home rec words c r ++ cha
 
 -- ---- contracts
 
--- the number that stands for copy j in a search for the lowest record from `floor` on: 0 leaves it out
-abbrev pub key_at : (ℕ → ℕ) → ℕ → ℕ → ℕ → ℕ
-key_at rec count floor j = cond (ltb j count && leb floor (rec j)) (rec j + 1) 0
-
--- the changes ws were put behind the k that `pairs` has, two words each; r is their number then
-pub record Noted (ws : List Write) (k : ℕ) (pairs pairs' : List ℕ) (r : ℕ) : Type 0 where
-  pub lists : pairs' ≡ written (2 * k) (stores ws) pairs
-  pub next : r ≡ k + length ws
-
--- of c copies with the changes ws, k of these were found: all of them, or too many for a short log; if all, `pairs` has them
-pub record Gathered (ws : List Write) (c : ℕ) (pairs pairs' : List ℕ) (k : ℕ) : Type 0 where
-  pub same : ltb (2 * k) (5 * c) ≡ ltb (2 * length ws) (5 * c)
-  pub few : k ≤ 13
-  pub noted : ltb (2 * k) (5 * c) ≡ true → Noted ws 0 pairs pairs' k
+-- of c copies with the changes ws, `found` were found: all of them, or too many for a short log
+pub record Gathered (ws : List Write) (c : ℕ) (found : List Write) : Type 0 where
+  pub same : ltb (2 * length found) (5 * c) ≡ ltb (2 * length ws) (5 * c)
+  pub few : length found ≤ 13
+  pub noted : ltb (2 * length found) (5 * c) ≡ true → found ≡ ws

@@ -1,3 +1,5 @@
 pub mod Changes
+pub mod Copies
 pub mod Lengths
 pub mod Log
+pub mod Slots

@@ -9,8 +9,9 @@ mod log;
 mod logs;
 mod replay;
 mod scan;
+mod slot;
 
-pub use changes::gather;
+pub use changes::{Changes, gather};
 pub use lengths::{replay_length, seal_length, settle_length};
 pub use log::write_log;
 pub use logs::{tied, unsound};

@@ -3,8 +3,10 @@ ghost use Rattle.std.specs.Prelude.{◌≡◌, [], ◌∷◌, ◌+◌, ◌*◌, 
 ghost use Rattle.layout.specs.Entries.{stores, shift, made, listed};
 ghost use Rattle.layout.specs.Trace.{Did, Room};
 ghost use Rattle.desk.specs.Desk.{no_copy};
-ghost use Rattle.journal.specs.Log.{place_writes, body_writes, short_writes, either_body, sealed_body};
+ghost use Rattle.journal.specs.Copies.{rec_in, words_in};
+ghost use Rattle.journal.specs.Log.{place_writes, body_writes, short_writes, either_body, index_in, word_in, sealed_body};
 
+use crate::changes::{Change, Changes};
 use desk::RecordCopy;
 
 // Words of a log slot: the persist number, and the count of copies, or 16 + that of pairs.
@@ -32,26 +34,15 @@ fn put_place(
 }
 
 // The body of a full log: the count, and the copies in their places.
-fn put_copies(
-    slot: &mut [u64],
-    base: u64,
-    trace: &mut [u64],
-    copies: [RecordCopy; 4],
-    count: u64,
-) -> usize
-    requires { (count ≤ 4) × Room (1 + 5 * count) base 1 0 slot.old trace.old }
-    ensures did { Did (stores (body_writes (λ j. (get_or copies j no_copy).rec) (λ j. (get_or copies j no_copy).words) count count)) base 0
+fn put_copies(slot: &mut [u64], base: u64, trace: &mut [u64], copies: &[RecordCopy]) -> usize
+    requires { (length copies.now ≤ 4) × Room (1 + 5 * length copies.now) base 1 0 slot.old trace.old }
+    ensures did { Did (stores (body_writes (rec_in copies.now) (words_in copies.now) (length copies.now) (length copies.now))) base 0
         slot.old trace.old slot.new trace.new result }
-    ensures value { result ≡ 2 + 10 * count }
+    ensures value { result ≡ 2 + 10 * length copies.now }
 {
-    let mut next = layout::put_store(slot, base, trace, 0, COUNT_WORD, count);
-    let mut k: usize = 0;
-    while (k as u64) < count {
-        let c = copies[k];
-        let rec = c.rec;
-        let words = c.words;
-        next = put_place(slot, base, trace, next, k, rec, words);
-        k += 1;
+    let mut next = layout::put_store(slot, base, trace, 0, COUNT_WORD, copies.len() as u64);
+    for (k, c) in copies.iter().enumerate() {
+        next = put_place(slot, base, trace, next, k, c.rec, c.words);
     }
     next
 }
@@ -74,74 +65,60 @@ fn put_pair(
     layout::put_store(slot, base, trace, next, i + 1, word)
 }
 
-// The body of a short log: 16 + count, and `count` pairs of home word index and new word.
-fn put_pairs(
-    slot: &mut [u64],
-    base: u64,
-    trace: &mut [u64],
-    pairs: &[u64; 26],
-    count: usize,
-) -> usize
-    requires { (count ≤ 9) × Room (1 + 2 * count) base 1 0 slot.old trace.old }
-    ensures did { Did (stores (short_writes (λ j. get_or pairs.now (2 * j) 0) (λ j. get_or pairs.now (2 * j + 1) 0) count count)) base 0
+// The body of a short log: 16 + their number, and the changes as pairs of home word index and new word.
+fn put_pairs(slot: &mut [u64], base: u64, trace: &mut [u64], changes: &[Change]) -> usize
+    requires { (length changes.now ≤ 9) × Room (1 + 2 * length changes.now) base 1 0 slot.old trace.old }
+    ensures did { Did (stores (short_writes (index_in changes.now) (word_in changes.now) (length changes.now) (length changes.now))) base 0
         slot.old trace.old slot.new trace.new result }
-    ensures value { result ≡ 2 + 4 * count }
+    ensures value { result ≡ 2 + 4 * length changes.now }
 {
-    let mut next = layout::put_store(slot, base, trace, 0, COUNT_WORD, 16 + count as u64);
-    let mut k: usize = 0;
-    while k < count {
-        let i = 2 * k;
-        let index = pairs[i];
-        let word = pairs[i + 1];
-        next = put_pair(slot, base, trace, next, 2 + i, index, word);
-        k += 1;
+    let count = 16 + changes.len() as u64;
+    let mut next = layout::put_store(slot, base, trace, 0, COUNT_WORD, count);
+    for (k, &(index, word)) in changes.iter().enumerate() {
+        next = put_pair(slot, base, trace, next, 2 + 2 * k, index, word);
     }
     next
 }
 
-// The body of a log: the short one when twice the number of pairs is less than five times the number of copies, else the full one.
+// The body of a log: the short one where it takes the changes, else the full one.
 fn put_body(
     slot: &mut [u64],
     base: u64,
     trace: &mut [u64],
-    pairs: &[u64; 26],
-    k: usize,
-    copies: [RecordCopy; 4],
-    count: u64,
+    changes: &Changes,
+    copies: &[RecordCopy],
 ) -> usize
-    requires { (k ≤ 13) × (count ≤ 4) × (22 ≤ length slot.old) × (48 ≤ length trace.old) × (base + 22 < 2 ^ 64) }
-    ensures did { Did (stores (either_body (λ j. get_or pairs.now (2 * j) 0) (λ j. get_or pairs.now (2 * j + 1) 0) k (λ j. (get_or copies j no_copy).rec)
-        (λ j. (get_or copies j no_copy).words) count)) base 0 slot.old trace.old slot.new
+    requires { (length copies.now ≤ 4) × (22 ≤ length slot.old) × (48 ≤ length trace.old) × (base + 22 < 2 ^ 64) }
+    ensures did { Did (stores (either_body (index_in changes.now) (word_in changes.now) (length changes.now) (rec_in copies.now)
+        (words_in copies.now) (length copies.now))) base 0 slot.old trace.old slot.new
         trace.new result }
     ensures upper_bound { result ≤ 42 }
 {
-    if 2 * (k as u64) < 5 * count {
-        return put_pairs(slot, base, trace, pairs, k);
+    if changes.fit(copies.len()) {
+        return put_pairs(slot, base, trace, changes.as_slice());
     }
-    put_copies(slot, base, trace, copies, count)
+    put_copies(slot, base, trace, copies)
 }
 
-// A log, in the slot that starts at `base` of the image: its body, a fence, the persist number, a fence. `pairs` has the k words of the
-// copies that differ from the home records, or k is too large for a short log.
+// A log, in the slot that starts at `base` of the image: its body, a fence, the persist number, a fence. The changes are the words of the
+// copies that differ from the home records, or too many for a short log.
 pub fn write_log(
     slot: &mut [u64],
     base: u64,
     trace: &mut [u64],
-    pairs: &[u64; 26],
-    k: usize,
-    copies: [RecordCopy; 4],
-    count: u64,
+    changes: &Changes,
+    copies: &[RecordCopy],
     persist: u64,
 )
-    requires { (k ≤ 13) × (count ≤ 4) × (22 ≤ length slot.old) × (48 ≤ length trace.old) × (base + 22 < 2 ^ 64) }
+    requires { (length copies.now ≤ 4) × (22 ≤ length slot.old) × (48 ≤ length trace.old) × (base + 22 < 2 ^ 64) }
     ensures image { slot.new
-        ≡ made (sealed_body persist (either_body (λ j. get_or pairs.now (2 * j) 0) (λ j. get_or pairs.now (2 * j + 1) 0) k
-        (λ j. (get_or copies j no_copy).rec) (λ j. (get_or copies j no_copy).words) count)) slot.old }
+        ≡ made (sealed_body persist (either_body (index_in changes.now) (word_in changes.now) (length changes.now)
+        (rec_in copies.now) (words_in copies.now) (length copies.now))) slot.old }
     ensures trace { trace.new
-        ≡ listed (shift base (sealed_body persist (either_body (λ j. get_or pairs.now (2 * j) 0) (λ j. get_or pairs.now (2 * j + 1) 0) k
-        (λ j. (get_or copies j no_copy).rec) (λ j. (get_or copies j no_copy).words) count))) trace.old }
+        ≡ listed (shift base (sealed_body persist (either_body (index_in changes.now) (word_in changes.now) (length changes.now)
+        (rec_in copies.now) (words_in copies.now) (length copies.now)))) trace.old }
 {
-    let a = put_body(slot, base, trace, pairs, k, copies, count);
+    let a = put_body(slot, base, trace, changes, copies);
     let b = layout::put_fence(trace, a);
     let c = layout::put_store(slot, base, trace, b, PERSIST_WORD, persist);
     layout::put_fence(trace, c);

@@ -2,24 +2,18 @@
 // shown.
 ghost use Rattle.std.specs.Prelude.{◌≡◌, ◌≤◌, ◌<◌};
 ghost use Rattle.layout.specs.Image.{persist_at, occupied_b};
-ghost use Rattle.layout.specs.Oldest.{oldest_of};
+ghost use Rattle.layout.specs.Oldest.{oldest_of, some_oldest};
 
 use layout::{Oldest, older, slot_word};
 
 // The oldest log of the first `slots` slots.
-pub fn oldest_log(image: &[u64], n: u64, slots: u64) -> Oldest
+pub fn oldest_log(image: &[u64], n: u64, slots: u64) -> Option<Oldest>
     requires { (n ≤ 256) × (slots ≤ 32) }
-    ensures { result ≡ oldest_of (persist_at image.now n) slots }
+    ensures { result ≡ some_oldest (oldest_of (persist_at image.now n) slots) }
 {
-    let mut best = Oldest {
-        number: 0,
-        place: 0,
-    };
-    let mut i: u64 = 0;
-    while i < slots {
-        let persist = slot_word(image, n, i, 0);
-        best = older(best, persist, i);
-        i += 1;
+    let mut best = None;
+    for i in 0..slots {
+        best = older(best, slot_word(image, n, i, 0), i);
     }
     best
 }
@@ -29,12 +23,5 @@ pub fn occupied(image: &[u64], n: u64, slots: u64) -> bool
     requires { (n ≤ 256) × (slots ≤ 32) }
     ensures { result ≡ occupied_b image.now n slots }
 {
-    let mut i: u64 = 0;
-    while i < slots {
-        if slot_word(image, n, i, 0) != 0 {
-            return true;
-        }
-        i += 1;
-    }
-    false
+    (0..slots).any(|i| slot_word(image, n, i, 0) != 0)
 }

@@ -10,5 +10,8 @@ pub mod Says
 pub mod Shape
 pub mod Stored
 pub mod TidyLaws
+pub mod AnswerLaws
 pub mod ToldLaws
+pub mod OldestLaws
+pub mod ListLaws
 pub mod TraceLaws

@@ -1,6 +1,8 @@
 pub mod Below
+pub mod Search
 pub mod Oldest
 pub mod Checks
+pub mod Refusal
 pub mod Image
 pub mod Entries
 pub mod Crash

@@ -1,9 +1,8 @@
--- What a caller is told, in document 01's words, with all the values that go with it; no two results are told alike. Each answer enum has
--- one definition, `..Told`, that gives this for its cases; `..Said` is what the rules have the call tell, and its contract promises that the
--- two are equal.
-use Rattle.std.specs.Prelude.{ℕ, Bool, true, false, List, [], eqb}
-use Rattle.layout.specs.declared.laying.LayAnswer.{LayAnswer}
-use Rattle.layout.specs.declared.laying.LayAnswer.TheVariants.{Refused, Laid}
+-- What a caller is told, in document 01's words, with all the values that go with it; no two results are told alike. Each call has
+-- one definition, `.._told`, that gives this for its answer; `.._said` is what the rules have the call tell, and its contract promises that
+-- the two are equal.
+use Rattle.std.specs.Prelude.{ℕ, Bool, true, false, List, [], eqb, ⊤, Ok as Done, Err as Refused}
+use Rattle.layout.specs.Refusal.{Answer, number_of, value_with}
 
 -- the results of all calls
 pub data Result : Type 0 where
@@ -127,6 +126,10 @@ abbrev pub words_told : Told → List ℕ
 words_told (refused k v) = []
 words_told (result x n ws) = ws
 
-abbrev pub lay_told : LayAnswer → Told
-lay_told (Refused k) = refusal k
-lay_told Laid = ok
+-- what an answer tells: a refusal by its number and value
+abbrev pub tells : {A : Type 0} → (A → Told) → Answer A → Told
+tells done (Refused r) = refused (number_of r) (value_with r)
+tells done (Done x) = done x
+
+abbrev pub lay_told : Answer ⊤ → Told
+lay_told = tells (λ x. ok)

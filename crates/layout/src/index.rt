@@ -34,9 +34,10 @@ pub fn home_words(image: &[u64], rec: u64) -> [u64; 4]
     ensures { result ≡ home_words image.now rec }
 {
     let i = home_at(rec);
-    let a = word(image, i);
-    let b = word(image, i + 1);
-    let c = word(image, i + 2);
-    let d = word(image, i + 3);
-    [a, b, c, d]
+    [
+        word(image, i),
+        word(image, i + 1),
+        word(image, i + 2),
+        word(image, i + 3),
+    ]
 }

@@ -7,11 +7,13 @@ mod image;
 mod index;
 mod laying;
 mod oldest;
+mod refusal;
 mod trace;
 
 pub use ceiling::{raise, raise_past};
-pub use image::{shaped, word};
+pub use image::{in_range, shaped, word};
 pub use index::{home_words, slot_at, slot_word};
-pub use laying::{LayAnswer, lay};
+pub use laying::lay;
 pub use oldest::{Oldest, older};
+pub use refusal::Refusal;
 pub use trace::{put_fence, put_home, put_store, put_words};

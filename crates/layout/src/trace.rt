@@ -8,7 +8,7 @@ ghost use Rattle.layout.specs.Trace.{Did, Room, Fenced, word_writes};
 use crate::index::home_at;
 
 // The index that lists a fence.
-const FENCE: u64 = 0xffff_ffff_ffff_ffff;
+const FENCE: u64 = u64::MAX;
 
 // One entry of the trace, at the word `at`; the answer is the place of the next.
 fn put(trace: &mut [u64], at: usize, index: u64, word: u64) -> usize

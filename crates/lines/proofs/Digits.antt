@@ -32,7 +32,7 @@ digits-spelled (suc k) (suc f) n l h m =
     positive (suc j) = omega (arith, positive j)
 
 -- a word has at most twenty digits
-pub few : (k n : ℕ) → n < 2 ^ 64 → IsDigitCount 10 1 n k → k ≤ 20
+few : (k n : ℕ) → n < 2 ^ 64 → IsDigitCount 10 1 n k → k ≤ 20
 few k n h w = ⊎_elim (λ z. omega arith) (λ z. over z) (eq-zero-or-pos (k - 20))
   where
     over : 0 < k - 20 → k ≤ 20

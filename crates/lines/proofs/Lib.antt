@@ -1,4 +1,3 @@
-pub mod Clauses
 pub mod PutLaws
 pub mod Digits
 pub mod Puts

@@ -1,23 +1,35 @@
 -- What the turns of the writing loops put, and bytes by another name.
 use mathlib.Core.Path.{◌≡◌, refl, ap, sym, ◌∙◌}
 use mathlib.Core.List.{List, [], ◌∷◌, ◌++◌, append_assoc, append-nil}
-use Prim.Native.Nat.{ℕ, suc, ◌+◌, ◌≤◌, ◌<◌}
+use Prim.Native.Nat.{ℕ, zero, suc, ◌+◌, ◌≤◌, ◌<◌}
 use native.Mathlib.Numerals.{add-one}
 use native.Mathlib.Omega.{arith}
-use lib.ListN.{length, get_or, take, drop, set, drop_of_length-le}
-use lib.Seq.{drop-cons, take-suc, take_all}
+use borrow.Rule.Slice.PartMut.{put_mid}
+use lib.ListN.{length, get_or, take, drop, set}
+use lib.Seq.{take-suc}
 use Rattle.lines.specs.Put.{put, Put}
 use Rattle.lines.specs.Line.{field, numbers, decimal_of}
 
-pub text-turn : (at j : ℕ) (text out : List ℕ) → j < length text
-    → put (at + j) (drop j text) out ≡ put (at + (j + 1)) (drop (j + 1) text) (set out (at + j) (get_or text j 0))
-text-turn at j text out h =
-    ap (λ l. put (at + j) l out) (drop-cons text j 0 h)
-    ∙ ap (λ n. put n (drop (suc j) text) (set out (at + j) (get_or text j 0))) (omega arith)
-    ∙ ap (λ n. put (at + (j + 1)) (drop n text) (set out (at + j) (get_or text j 0))) (sym (add-one j))
+put-below : (at : ℕ) (bs : List ℕ) (o : ℕ) (out : List ℕ) → put (suc at) bs (o ∷ out) ≡ o ∷ put at bs out
+put-below at [] o out = refl
+put-below at (b ∷ bs) o out = ap (λ n. put n bs (o ∷ set out at b)) (omega arith) ∙ put-below (at + 1) bs o (set out at b)
 
-pub text-end : (at j : ℕ) (text out : List ℕ) → length text ≤ j → put (at + j) (drop j text) out ≡ out
-text-end at j text out h = ap (λ l. put (at + j) l out) (drop_of_length-le text h)
+put-front : (k : ℕ) (bs out : List ℕ) → k ≡ length bs → k ≤ length out → bs ++ drop k out ≡ put 0 bs out
+put-front zero [] out e h = refl
+put-front zero (b ∷ bs) out e h = absurd (omega arith)
+put-front (suc k) [] out e h = absurd (omega arith)
+put-front (suc k) (b ∷ bs) [] e h = absurd (omega arith)
+put-front (suc k) (b ∷ bs) (o ∷ out) e h =
+    ap (λ (l : List ℕ). b ∷ l) (put-front k bs out (omega arith) (omega arith)) ∙ sym (put-below 0 bs b out)
+
+put-mid : (at k : ℕ) (bs out : List ℕ) → k ≡ length bs → at + k ≤ length out → put_mid at k out bs ≡ put at bs out
+put-mid zero k bs out e h = put-front k bs out e (omega arith)
+put-mid (suc at) k bs [] e h = absurd (omega arith)
+put-mid (suc at) k bs (o ∷ out) e h = ap (λ (l : List ℕ). o ∷ l) (put-mid at k bs out e (omega arith)) ∙ sym (put-below at bs o out)
+
+-- bytes copied into a part of their own length
+pub put_copied : (at k : ℕ) (bs part out : List ℕ) → k ≡ length bs → at + k ≤ length out → part ≡ bs → Put bs at out (put_mid at k out part) (at + length bs)
+put_copied at k bs part out e h p = record { wrote = ap (put_mid at k out) p ∙ put-mid at k bs out e h; next = refl }
 
 -- a byte, and then others
 pub put-cons : {bs out out' : List ℕ} {at r b : ℕ} → Put bs (at + 1) (set out at b) out' r → Put (b ∷ bs) at out out' r
@@ -50,6 +62,3 @@ numbers_more ns j h =
     ∙ ap numbers (take-suc ns j 0 h)
     ∙ numbers-append (take j ns) (get_or ns j 0 ∷ [])
     ∙ ap (λ l. numbers (take j ns) ++ l) (append-nil (32 ∷ decimal_of (get_or ns j 0))))
-
-pub numbers-all : (ns : List ℕ) (j : ℕ) → length ns ≤ j → numbers (take j ns) ≡ numbers ns
-numbers-all ns j h = ap numbers (take_all j ns h)

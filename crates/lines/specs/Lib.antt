@@ -1,4 +1,3 @@
 pub mod Put
 pub mod Line
 pub mod Result
-pub mod Phrase

@@ -35,7 +35,7 @@ unfoldable pub step_head : ℕ → Step → List ℕ
 step_head number (Lay n m) = head_of number (108 ∷ 97 ∷ 121 ∷ []) (n ∷ m ∷ [])
 step_head number (Begin s) = head_of number (98 ∷ 101 ∷ 103 ∷ 105 ∷ 110 ∷ []) (s ∷ [])
 step_head number (Read s r) = head_of number (114 ∷ 101 ∷ 97 ∷ 100 ∷ []) (s ∷ r ∷ [])
-step_head number (Write s r) = head_of number (119 ∷ 114 ∷ 105 ∷ 116 ∷ 101 ∷ []) (s ∷ r ∷ [])
+step_head number (Write s r ws) = head_of number (119 ∷ 114 ∷ 105 ∷ 116 ∷ 101 ∷ []) (s ∷ r ∷ [])
 step_head number (Finish s) = head_of number (102 ∷ 105 ∷ 110 ∷ 105 ∷ 115 ∷ 104 ∷ []) (s ∷ [])
 step_head number (Publish s) = head_of number (112 ∷ 117 ∷ 98 ∷ 108 ∷ 105 ∷ 115 ∷ 104 ∷ []) (s ∷ [])
 step_head number (Settle s) = head_of number (115 ∷ 101 ∷ 116 ∷ 116 ∷ 108 ∷ 101 ∷ []) (s ∷ [])

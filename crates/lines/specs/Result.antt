@@ -2,32 +2,33 @@
 use Rattle.std.specs.Prelude.{ℕ, List, [], ◌∷◌, ◌++◌}
 use Rattle.lines.specs.Line.{head_of, result_of, step_head}
 use Rattle.codec.specs.declared.step.Step.{Step}
+use Rattle.layout.specs.Refusal.{number_of}
 use Rattle.lines.specs.declared.outcome.Outcome.{Outcome}
 use Rattle.lines.specs.declared.outcome.Outcome.TheVariants.{Refused, Ok, Start, End, Sealed, Empty, Own, Copy, Home, Wait}
 use Rattle.lines.specs.declared.outcome.Outcome.TheVariants.{None, Held, Cleared, Cut, Noted}
 
 -- results: ok; start, end or sealed with a number; empty; four words and own, copy or home; wait, held or cleared with a number; none;
 -- "no K", K alone; "cut" for the step that is cut; step 9 prints no result
-unfoldable pub outcome_text : Outcome → List ℕ → List ℕ
-outcome_text (Refused k v) ws = result_of (110 ∷ 111 ∷ []) (k ∷ []) []
-outcome_text Ok ws = result_of (111 ∷ 107 ∷ []) [] []
-outcome_text (Start n) ws = result_of (115 ∷ 116 ∷ 97 ∷ 114 ∷ 116 ∷ []) (n ∷ []) []
-outcome_text (End n) ws = result_of (101 ∷ 110 ∷ 100 ∷ []) (n ∷ []) []
-outcome_text (Sealed n) ws = result_of (115 ∷ 101 ∷ 97 ∷ 108 ∷ 101 ∷ 100 ∷ []) (n ∷ []) []
-outcome_text Empty ws = result_of (101 ∷ 109 ∷ 112 ∷ 116 ∷ 121 ∷ []) [] []
-outcome_text Own ws = result_of [] ws (111 ∷ 119 ∷ 110 ∷ [])
-outcome_text Copy ws = result_of [] ws (99 ∷ 111 ∷ 112 ∷ 121 ∷ [])
-outcome_text Home ws = result_of [] ws (104 ∷ 111 ∷ 109 ∷ 101 ∷ [])
-outcome_text (Wait n) ws = result_of (119 ∷ 97 ∷ 105 ∷ 116 ∷ []) (n ∷ []) []
-outcome_text None ws = result_of (110 ∷ 111 ∷ 110 ∷ 101 ∷ []) [] []
-outcome_text (Held n) ws = result_of (104 ∷ 101 ∷ 108 ∷ 100 ∷ []) (n ∷ []) []
-outcome_text (Cleared n) ws = result_of (99 ∷ 108 ∷ 101 ∷ 97 ∷ 114 ∷ 101 ∷ 100 ∷ []) (n ∷ []) []
-outcome_text Cut ws = result_of (99 ∷ 117 ∷ 116 ∷ []) [] []
-outcome_text Noted ws = []
+unfoldable pub outcome_text : Outcome → List ℕ
+outcome_text (Refused r) = result_of (110 ∷ 111 ∷ []) (number_of r ∷ []) []
+outcome_text Ok = result_of (111 ∷ 107 ∷ []) [] []
+outcome_text (Start n) = result_of (115 ∷ 116 ∷ 97 ∷ 114 ∷ 116 ∷ []) (n ∷ []) []
+outcome_text (End n) = result_of (101 ∷ 110 ∷ 100 ∷ []) (n ∷ []) []
+outcome_text (Sealed n) = result_of (115 ∷ 101 ∷ 97 ∷ 108 ∷ 101 ∷ 100 ∷ []) (n ∷ []) []
+outcome_text Empty = result_of (101 ∷ 109 ∷ 112 ∷ 116 ∷ 121 ∷ []) [] []
+outcome_text (Own ws) = result_of [] ws (111 ∷ 119 ∷ 110 ∷ [])
+outcome_text (Copy ws) = result_of [] ws (99 ∷ 111 ∷ 112 ∷ 121 ∷ [])
+outcome_text (Home ws) = result_of [] ws (104 ∷ 111 ∷ 109 ∷ 101 ∷ [])
+outcome_text (Wait n) = result_of (119 ∷ 97 ∷ 105 ∷ 116 ∷ []) (n ∷ []) []
+outcome_text None = result_of (110 ∷ 111 ∷ 110 ∷ 101 ∷ []) [] []
+outcome_text (Held n) = result_of (104 ∷ 101 ∷ 108 ∷ 100 ∷ []) (n ∷ []) []
+outcome_text (Cleared n) = result_of (99 ∷ 108 ∷ 101 ∷ 97 ∷ 114 ∷ 101 ∷ 100 ∷ []) (n ∷ []) []
+outcome_text Cut = result_of (99 ∷ 117 ∷ 116 ∷ []) [] []
+outcome_text Noted = []
 
 -- a step's line: step number, call, arguments, result
-unfoldable pub step_line : ℕ → Step → Outcome → List ℕ → List ℕ
-step_line number step outcome words = step_head number step ++ (outcome_text outcome words ++ (10 ∷ []))
+unfoldable pub step_line : ℕ → Step → Outcome → List ℕ
+step_line number step outcome = step_head number step ++ (outcome_text outcome ++ (10 ∷ []))
 
 -- a line that prints no step: step number, a word, numbers
 unfoldable pub note_line : ℕ → List ℕ → List ℕ → List ℕ

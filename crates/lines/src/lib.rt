@@ -4,7 +4,6 @@
 
 mod line;
 mod outcome;
-mod phrase;
 mod text;
 
 pub use line::{put_line, put_note};

@@ -1,15 +1,17 @@
-// The result of a step. Its line shows the words of a read too, and of a refusal the number alone, not the value that goes with it.
+// The result of a step; a read has the four words. Of a refusal the line shows the number alone, not the value that goes with it.
+use layout::Refusal;
+
 #[derive(Clone, Copy)]
 pub enum Outcome {
-    Refused(u64, u64),
+    Refused(Refusal),
     Ok,
     Start(u64),
     End(u64),
     Sealed(u64),
     Empty,
-    Own,
-    Copy,
-    Home,
+    Own([u64; 4]),
+    Copy([u64; 4]),
+    Home([u64; 4]),
     Wait(u64),
     None,
     Held(u64),

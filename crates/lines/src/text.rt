@@ -1,20 +1,17 @@
-// Fields put into a lent buffer, each answering where the next goes. Every function here asks for room: they are for the programs above,
-// which have shown that there is room before they print a line.
+// Fields put into a lent buffer, each answering where the next goes.
 ghost use Rattle.std.specs.Prelude.{◌≡◌, ◌∷◌, ◌+◌, ◌*◌, ◌≤◌, length};
 ghost use Rattle.lines.specs.Put.{Put};
 ghost use Rattle.lines.specs.Line.{decimal_of, field, numbers, head_of, result_of};
 
 // The bytes of a text.
+#[tactic(auto, using(crate::proofs::Puts::put_copied))]
 pub fn put_text(out: &mut [u8], at: usize, text: &[u8]) -> usize
     requires { at + length text.now ≤ length out.old }
     ensures { Put text.now at out.old out.new result }
 {
-    let mut j: usize = 0;
-    while j < text.len() {
-        out[at + j] = text[j];
-        j += 1;
-    }
-    at + j
+    let end = at + text.len();
+    out[at..end].copy_from_slice(text);
+    end
 }
 
 // A number in decimal digits.
@@ -24,7 +21,7 @@ pub fn put_number(out: &mut [u8], at: usize, n: u64) -> usize
     ensures upper_bound { result ≤ at + 20 }
 {
     if n < 10 {
-        out[at] = 48 + n as u8;
+        out[at] = b'0' + n as u8;
         return at + 1;
     }
     let mut digits = [0u8; 20];
@@ -38,10 +35,10 @@ fn put_field(out: &mut [u8], at: usize, text: &[u8]) -> usize
     ensures put { Put (field text.now) at out.old out.new result }
     ensures upper_bound { result ≤ at + length text.now + 1 }
 {
-    if text.len() == 0 {
+    if text.is_empty() {
         return at;
     }
-    out[at] = 32;
+    out[at] = b' ';
     put_text(out, at + 1, text)
 }
 
@@ -50,7 +47,7 @@ fn put_field_number(out: &mut [u8], at: usize, n: u64) -> usize
     ensures put { Put (32 ∷ decimal_of n) at out.old out.new result }
     ensures upper_bound { result ≤ at + 21 }
 {
-    out[at] = 32;
+    out[at] = b' ';
     put_number(out, at + 1, n)
 }
 
@@ -60,11 +57,9 @@ pub fn put_numbers(out: &mut [u8], at: usize, ns: &[u64]) -> usize
     ensures put { Put (numbers ns.now) at out.old out.new result }
     ensures upper_bound { result ≤ at + 21 * length ns.now }
 {
-    let mut j: usize = 0;
     let mut next = at;
-    while j < ns.len() {
-        next = put_field_number(out, next, ns[j]);
-        j += 1;
+    for &n in ns {
+        next = put_field_number(out, next, n);
     }
     next
 }

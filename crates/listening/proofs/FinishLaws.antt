@@ -1,20 +1,26 @@
 -- Finish in the listening room, by what the store's finish gives.
-use Prim.Native.Nat.{ℕ, zero, suc}
+use Prim.Native.Nat.{ℕ, zero, suc, ◌≤◌}
 use mathlib.Core.Bool.{Bool, true, false, cond, ◌||◌, false≢true}
 use mathlib.Core.Path.{◌≡◌, refl, sym, ap, ◌∙◌}
 use mathlib.Core.List.{List, []}
+use native.Mathlib.Omega.{arith}
 use lib.Dec.{ltb}
+use Rattle.std.specs.Prelude.{Option, Err}
+use Rattle.std.specs.Result.{result_and}
 use Rattle.layout.specs.Checks.{unless, first, answered, room_for}
-use Rattle.layout.specs.Told.{Told, refusal, empty}
-use Rattle.layout.proofs.ChecksLaws.{first-both, unless-zero, answered-zero, answered-not}
+use Rattle.layout.specs.Refusal.{Answer, answer_of}
+use Rattle.layout.specs.Told.{refusal, empty}
+use Rattle.layout.specs.declared.refusal.Refusal.TheVariants.{CopiesHeld}
+use Rattle.layout.proofs.ToldLaws.{known}
+use Rattle.layout.proofs.ChecksLaws.{first-both, unless-zero, answered-zero, first-most, unless-most}
 use Rattle.desk.specs.Coherent.{limit}
 use Rattle.desk.specs.Desk.{session_at, is_active}
 use Rattle.desk.specs.Entering.{image_fault}
 use Rattle.desk.specs.declared.state.Desk.{Desk}
-use Rattle.desk.proofs.Entered.{Entered, entered}
+use Rattle.desk.proofs.Entered.{Entered, entered, entry-most}
 use Rattle.commit.specs.Finish.{finish_fault, finish_entries, seal_entries, finish_refused, finish_done, finish_reply}
 use Rattle.commit.specs.Told.{finish_told}
-use Rattle.commit.specs.declared.finishing.FinishReply.{FinishReply}
+use Rattle.desk.specs.declared.reply.StoringReply.{StoringReply}
 use Rattle.listening.specs.Listener.{no_copies, holds_copies, listener_fault}
 use Rattle.listening.specs.Finish.{listen_finish_reply, listen_finish_said}
 use Rattle.listening.proofs.Holding.{bare-entered, held-some}
@@ -38,22 +44,22 @@ listener img d room s e =
       bare = unless-zero _ 17 b.1;
     }
 
-abbrev finishes : FinishReply → Told
-finishes x = finish_told x.answer
+pub listener-most : (img : List ℕ) (d : Desk) (room : Bool) (s : ℕ) → listener_fault img d room s ≤ 20
+unfolding listener_fault
+listener-most img d room s =
+    first-most 20 _ _ (omega (arith, entry-most img d room s))
+    (first-most 20 _ _ (unless-most 20 (is_active (session_at d s).phase) 6 (omega arith)) (unless-most 20 (no_copies d s) 18 (omega arith)))
 
 module _ (img : List ℕ) (d : Desk) (len s : ℕ) where
   -- past its checks it tells "empty"
-  told : finishes (listen_finish_reply img d len s) ≡ listen_finish_said img d len s
+  pub listen-finish-told : finish_told (listen_finish_reply img d len s).answer ≡ listen_finish_said img d len s
   unfolding listen_finish_reply listen_finish_said answered
-  told = go (listener_fault img d (room_for len) s) refl
+  listen-finish-told = go (listener_fault img d (room_for len) s) refl (listener-most img d (room_for len) s)
     where
-      go : (k : ℕ) → listener_fault img d (room_for len) s ≡ k
-          → finishes (answered k (finish_refused d) (finish_done img d s)) ≡ answered k refusal empty
-      go zero e = rw (listener img d (room_for len) s e).bare refl
-      go (suc k) e = refl
-
-  pub listen-finish-tells : {x : FinishReply} → x ≡ listen_finish_reply img d len s → finishes x ≡ listen_finish_said img d len s
-  listen-finish-tells e = rw e told
+      go : (k : ℕ) → listener_fault img d (room_for len) s ≡ k → k ≤ 20
+          → finish_told (answered k (finish_refused d) (finish_done img d s)).answer ≡ answered k refusal empty
+      go zero e l = rw (listener img d (room_for len) s e).bare refl
+      go (suc k) e l = let h = known k (omega arith) in rw (h.number, h.value) refl
 
   -- the store's checks pass, and it gives what it does past them
   pub finish-done : listener_fault img d (room_for len) s ≡ 0 → finish_reply img d len s ≡ finish_done img d s
@@ -96,10 +102,14 @@ module _ (img : List ℕ) (d : Desk) (len s : ℕ) where
       go zero e = rw (listener img d (room_for len) s e).bare refl
       go (suc k) e = refl
 
-  -- one that holds copies is refused
-  pub finish-turned : holds_copies d s ≡ true → (k : ℕ) → k ≡ listener_fault img d (room_for len) s → finish_refused d k ≡ listen_finish_reply img d len s
-  unfolding listen_finish_reply
-  finish-turned n k e = ap (finish_refused d) e ∙ sym (answered-not _ (finish_refused d) _ held)
+  -- one that holds copies is refused, by 18 if by nothing before it
+  pub finish-turned : holds_copies d s ≡ true → (start : ℕ) {x : Answer ℕ} {o : Answer (Option ℕ)} → x ≡ answer_of (listener_fault img d (room_for len) s) start
+      → o ≡ result_and x (Err CopiesHeld) → record { answer = o; entries = 0; desk = d } ≡ listen_finish_reply img d len s
+  unfolding listen_finish_reply answered
+  finish-turned n start e f = rw (f, e) (go (listener_fault img d (room_for len) s) refl)
     where
-      held : listener_fault img d (room_for len) s ≡ 0 → ⊥
-      held z = false≢true (sym (held-some d s n) ∙ (listener img d (room_for len) s z).bare)
+      go : (k : ℕ) → listener_fault img d (room_for len) s ≡ k
+          → ◌≡◌ {A = StoringReply (Option ℕ)} (record { answer = result_and (answer_of k start) (Err CopiesHeld); entries = 0; desk = d })
+          (answered k (finish_refused d) (finish_done img d s))
+      go zero z = absurd (false≢true (sym (held-some d s n) ∙ (listener img d (room_for len) s z).bare))
+      go (suc k) z = refl

@@ -4,22 +4,14 @@ use Rattle.layout.specs.Checks.{unless, first, answered}
 use Rattle.layout.specs.Told.{Told, refusal}
 use Rattle.desk.specs.declared.state.Desk.{Desk}
 use Rattle.snapshot.specs.Read.{read_fault, read_refused, read_done, done_said}
-use Rattle.snapshot.specs.declared.reading.ReadAnswer.{ReadAnswer}
-use Rattle.snapshot.specs.declared.reading.ReadAnswer.TheVariants.{Refused, Own, Copy, Home}
-use Rattle.snapshot.specs.declared.reading.ReadReply.{ReadReply}
+use Rattle.desk.specs.declared.reply.Reply.{Reply}
+use Rattle.snapshot.specs.declared.seeing.Sight.{Sight}
 use Rattle.listening.specs.Listener.{no_copies}
-
--- the number that a read of a session with copies is refused by: the store's, or else 18
-abbrev pub held_fault : ReadAnswer → ℕ
-held_fault (Refused k) = k
-held_fault Own = 18
-held_fault Copy = 18
-held_fault Home = 18
 
 unfoldable pub listen_read_fault : List ℕ → Desk → ℕ → ℕ → ℕ
 listen_read_fault img d s r = first (read_fault img d s r) (unless (no_copies d s) 18)
 
-unfoldable pub listen_read_reply : List ℕ → Desk → ℕ → ℕ → ReadReply
+unfoldable pub listen_read_reply : List ℕ → Desk → ℕ → ℕ → Reply Sight
 listen_read_reply img d s r = answered (listen_read_fault img d s r) (read_refused d) (read_done img d s r)
 
 -- what it tells

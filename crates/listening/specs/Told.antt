@@ -1,9 +1,12 @@
 -- What each answer of find tells.
-use Rattle.layout.specs.Told.{Told, refusal, nothing, found_at}
-use Rattle.listening.specs.declared.finding.FindAnswer.{FindAnswer}
-use Rattle.listening.specs.declared.finding.FindAnswer.TheVariants.{Refused, Found, None}
+use Rattle.std.specs.Prelude.{ℕ, Option, Some, None}
+use Rattle.layout.specs.Refusal.{Answer}
+use Rattle.layout.specs.Told.{Told, tells, nothing, found_at}
 
-abbrev pub find_told : FindAnswer → Told
-find_told (Refused k) = refusal k
-find_told (Found r) = found_at r
-find_told None = nothing
+-- the record, or "none"
+abbrev pub record_told : Option ℕ → Told
+record_told (Some r) = found_at r
+record_told None = nothing
+
+abbrev pub find_told : Answer (Option ℕ) → Told
+find_told = tells record_told

@@ -9,6 +9,6 @@ mod listener;
 mod reading;
 
 pub use beginning::begin;
-pub use finding::{FindAnswer, FindReply, find};
+pub use finding::find;
 pub use finishing::finish;
 pub use reading::read;

@@ -1,28 +1,96 @@
-// What a call answered, in plain numbers: the refusal's number, or 20 ok, 21 start, 22 own, 23 copy, 24 home, 25 empty, 26 sealed, 27 end,
-// 28 wait, 29 none, 30 held, 31 cleared, 32 clean, 33 replayed, 34 reel, 35 unused, 36 unknown, 37 metres, 38 found, 39 speed to find.
-use store::Desk;
+// What a call answered, in plain numbers: the refusal's number, or one of the results.
+use crate::results;
+use store::{Desk, Refusal, Reply, Sight, Source, StoringReply};
 
-// Zeros where the call has no value, words or entries; the desk that was given where it leaves none.
+// The number, and the value and the words that go with it; zeros where there are none.
 #[derive(Clone, Copy)]
-pub struct Answered {
-    pub answer: u64,
+pub struct Told {
+    pub number: u64,
     pub value: u64,
     pub words: [u64; 4],
+}
+
+impl Told {
+    pub fn of(number: u64, value: u64) -> Told {
+        Told {
+            number,
+            value,
+            words: [0; 4],
+        }
+    }
+
+    pub fn worded(number: u64, words: [u64; 4]) -> Told {
+        Told {
+            number,
+            value: 0,
+            words,
+        }
+    }
+
+    pub fn seen(sight: Sight) -> Told {
+        Told::worded(source_number(sight.source), sight.words)
+    }
+
+    // By the persist number, none where there was nothing to store.
+    pub fn sealed(persist: Option<u64>) -> Told {
+        persist.map_or(
+            Told::of(results::EMPTY, 0),
+            |p| Told::of(results::SEALED, p),
+        )
+    }
+}
+
+impl From<Refusal> for Told {
+    fn from(refusal: Refusal) -> Told {
+        Told::of(refusal.number(), refusal.value())
+    }
+}
+
+pub fn source_number(source: Source) -> u64 {
+    match source {
+        Source::Own => results::OWN,
+        Source::Copy => results::COPY,
+        Source::Home => results::HOME,
+    }
+}
+
+// What a call told and left: no entries where it stores nothing, the desk that was given where it leaves none.
+#[derive(Clone, Copy)]
+pub struct Answered {
+    pub told: Told,
     pub entries: u64,
     pub desk: Desk,
 }
 
-pub fn gives(answer: u64, value: u64, words: [u64; 4], entries: u64, desk: Desk) -> Answered {
-    Answered {
-        answer: answer,
-        value: value,
-        words: words,
-        entries: entries,
-        desk: desk,
+impl Answered {
+    // Of a call beside the desk.
+    pub fn beside<T, F: FnOnce(T) -> Told>(
+        desk: Desk,
+        answer: Result<T, Refusal>,
+        shown: F,
+    ) -> Answered
+        requires { F.IsAlwaysCallable shown }
+    {
+        Answered {
+            told: answer.map_or_else(Told::from, shown),
+            entries: 0,
+            desk,
+        }
     }
-}
 
-// An answer without words.
-pub fn tells(answer: u64, value: u64, entries: u64, desk: Desk) -> Answered {
-    gives(answer, value, [0; 4], entries, desk)
+    pub fn of<T, F: FnOnce(T) -> Told>(reply: Reply<T>, shown: F) -> Answered
+        requires { F.IsAlwaysCallable shown }
+    {
+        Answered::beside(reply.desk, reply.answer, shown)
+    }
+
+    // Of a call that stores.
+    pub fn storing<T, F: FnOnce(T) -> Told>(reply: StoringReply<T>, shown: F) -> Answered
+        requires { F.IsAlwaysCallable shown }
+    {
+        Answered {
+            entries: reply.entries,
+            ..Answered::beside(reply.desk, reply.answer, shown)
+        }
+    }
 }

@@ -1,82 +1,152 @@
 // The call that a case names.
-use crate::answered::Answered;
+use crate::answered::{Answered, Told};
 use crate::{listening_calls, reel_calls, store_calls};
 use codec::Step;
 use store::Desk;
 
-// A call by its number, and its arguments but the image, the desk and the trace: N and M of a lay; session and record; the four words of a
-// record, or the numbers of a reel. A group's set stands in the place of the session, a shelf number in that of the first word.
+// A call and its arguments but the image, the desk and the trace.
 #[derive(Clone, Copy)]
-pub struct Call {
-    pub number: u64,
-    pub n: u64,
-    pub m: u64,
-    pub session: u64,
-    pub rec: u64,
-    pub words: [u64; 4],
+pub enum Call {
+    Lay {
+        n: u64,
+        m: u64,
+    },
+    Open,
+    Recover,
+    // A call of a session that a step makes too.
+    Step(Step),
+    PublishGroup(u16),
+    PackReel([u64; 4]),
+    UnpackReel([u64; 4]),
+    ReadReel {
+        session: u64,
+        rec: u64,
+    },
+    WriteReel {
+        session: u64,
+        rec: u64,
+        numbers: [u64; 4],
+    },
+    TapeLength([u64; 4]),
+    BeginListening(u64),
+    ReadListening {
+        session: u64,
+        rec: u64,
+    },
+    FinishListening(u64),
+    Find {
+        session: u64,
+        shelf: u64,
+    },
+    // The number is no call's. No case that is unpacked has one.
+    NoCall,
 }
 
-// The step of a session call: numbers 1 to 8.
-fn step_of(number: u64, session: u64, rec: u64) -> Step {
-    match number {
-        1 => Step::Begin(session),
-        2 => Step::Read(session, rec),
-        3 => Step::Write(session, rec),
-        4 => Step::Finish(session),
-        5 => Step::Publish(session),
-        6 => Step::Settle(session),
-        7 => Step::Reclaim(session),
-        _ => Step::Abandon(session),
+impl Call {
+    // The call of a case by its number, word 0. N and M are words 1 and 2, session and record 3 and 4, and 5 to 8 the words of a record or the
+    // numbers of a reel. A group's set stands in the place of the session, a shelf number in that of word 5. `model/raw.py` has the numbers.
+    pub fn of(case: [u64; 2470]) -> Call {
+        let session = case[3];
+        let rec = case[4];
+        let words = [case[5], case[6], case[7], case[8]];
+        match case[0] {
+            0 => Call::Lay {
+                n: case[1],
+                m: case[2],
+            },
+            1 => Call::Step(Step::Begin(session)),
+            2 => Call::Step(Step::Read(session, rec)),
+            3 => Call::Step(Step::Write(session, rec, words)),
+            4 => Call::Step(Step::Finish(session)),
+            5 => Call::Step(Step::Publish(session)),
+            6 => Call::Step(Step::Settle(session)),
+            7 => Call::Step(Step::Reclaim(session)),
+            8 => Call::Step(Step::Abandon(session)),
+            9 => Call::Open,
+            10 => Call::Recover,
+            11 => Call::PackReel(words),
+            12 => Call::UnpackReel(words),
+            13 => Call::ReadReel { session, rec },
+            14 => Call::WriteReel {
+                session,
+                rec,
+                numbers: words,
+            },
+            15 => Call::TapeLength(words),
+            16 => Call::BeginListening(session),
+            17 => Call::ReadListening { session, rec },
+            18 => Call::FinishListening(session),
+            19 => Call::Find {
+                session,
+                shelf: words[0],
+            },
+            20 => Call::PublishGroup((session % 65536) as u16),
+            _ => Call::NoCall,
+        }
     }
-}
 
-// A call of the reel library: numbers 11 to 15.
-fn reel_call(image: &[u64], desk: Desk, call: Call) -> Answered {
-    let number = call.number;
-    let words = call.words;
-    match number {
-        11 => reel_calls::pack(desk, words),
-        12 => reel_calls::unpack(desk, words),
-        13 => reel_calls::read(image, desk, call.session, call.rec),
-        14 => reel_calls::write(image, desk, call.session, call.rec, words),
-        _ => reel_calls::tape_length(desk, words),
+    // Makes the call on an image, a desk and a trace.
+    pub fn make(self, image: &mut [u64], desk: Desk, trace: &mut [u64]) -> Answered {
+        match self {
+            Call::Lay { n, m } => store_calls::lay(image, desk, n, m),
+            Call::Open => store_calls::open(image, trace),
+            Call::Recover => store_calls::recover(image, desk, trace),
+            Call::Step(step) => store_calls::apply(image, desk, trace, step),
+            Call::PublishGroup(set) => store_calls::publish_group(image, desk, trace, set),
+            Call::PackReel(numbers) => reel_calls::pack(desk, numbers),
+            Call::UnpackReel(words) => reel_calls::unpack(desk, words),
+            Call::ReadReel { session, rec } => reel_calls::read(image, desk, session, rec),
+            Call::WriteReel {
+                session,
+                rec,
+                numbers,
+            } => reel_calls::write(image, desk, session, rec, numbers),
+            Call::TapeLength(words) => reel_calls::tape_length(desk, words),
+            Call::BeginListening(session) => listening_calls::begin(desk, session),
+            Call::ReadListening { session, rec } => listening_calls::read(
+                image, desk, session, rec,
+            ),
+            Call::FinishListening(session) => listening_calls::finish(image, desk, trace, session),
+            Call::Find { session, shelf } => listening_calls::find(image, desk, session, shelf),
+            Call::NoCall => Answered {
+                told: Told::of(0, 0),
+                entries: 0,
+                desk,
+            },
+        }
     }
-}
 
-// A call of the listening room: numbers 16 to 19.
-fn listening_call(image: &mut [u64], desk: Desk, trace: &mut [u64], call: Call) -> Answered {
-    let number = call.number;
-    let words = call.words;
-    match number {
-        16 => listening_calls::begin(desk, call.session),
-        17 => listening_calls::read(image, desk, call.session, call.rec),
-        18 => listening_calls::finish(image, desk, trace, call.session),
-        _ => listening_calls::find(image, desk, call.session, words[0]),
+    // Whether the call has words alone: no image, desk or trace.
+    fn words_alone(self) -> bool {
+        matches!(
+            self,
+            Call::PackReel(_) | Call::UnpackReel(_) | Call::TapeLength(_)
+        )
     }
-}
 
-// A call of the store: the other numbers.
-fn store_call(image: &mut [u64], desk: Desk, trace: &mut [u64], call: Call) -> Answered {
-    let number = call.number;
-    let s = call.session;
-    let words = call.words;
-    match number {
-        0 => store_calls::lay(image, desk, call.n, call.m),
-        9 => store_calls::open(image, trace),
-        10 => store_calls::recover(image, desk, trace),
-        20 => store_calls::publish_group(image, desk, trace, (s % 65536) as u16),
-        _ => store_calls::apply(image, desk, trace, step_of(number, s, call.rec), words),
+    // Whether the line of the case shows the image.
+    pub fn shows_image(self) -> bool {
+        !self.words_alone()
+            && !matches!(
+                self,
+                Call::Step(Step::Begin(_) | Step::Abandon(_)) | Call::BeginListening(_)
+            )
     }
-}
 
-// Makes a call on an image, a desk and a trace. `model/raw.py` has the numbers.
-pub fn make(image: &mut [u64], desk: Desk, trace: &mut [u64], call: Call) -> Answered {
-    let number = call.number;
-    if (10 < number) & (number < 16) {
-        return reel_call(image, desk, call);
+    // Whether it shows the trace.
+    pub fn shows_trace(self) -> bool {
+        match self {
+            Call::Step(step) => matches!(
+                step,
+                Step::Finish(_) | Step::Publish(_) | Step::Settle(_) | Step::Reclaim(_)
+            ),
+            Call::Open | Call::Recover | Call::PublishGroup(_) | Call::FinishListening(_) => true,
+            _ => false,
+        }
     }
-    if (15 < number) & (number < 20) {
-        return listening_call(image, desk, trace, call);
+
+    // Whether it shows the desk.
+    pub fn shows_desk(self) -> bool {
+        !self.words_alone() && !matches!(self, Call::Lay { .. } | Call::Recover)
     }
-    store_call(image, desk, trace, call)
 }

@@ -8,13 +8,7 @@ pub fn mix(d: u64, word: u64) -> u64 {
 
 // Mixes words into a digest, one after the other.
 pub fn mix_words(start: u64, words: &[u64]) -> u64 {
-    let mut d = start;
-    let mut i: usize = 0;
-    while i < words.len() {
-        d = mix(d, words[i]);
-        i += 1;
-    }
-    d
+    words.iter().fold(start, |d, word| mix(d, *word))
 }
 
 // The digest of some words: it starts from their number.

@@ -1,5 +1,5 @@
 // A case out of packed bytes. The functions that have a `requires` are for use inside this crate.
-ghost use Rattle.std.specs.Prelude.{◌+◌, ◌≤◌, ◌<◌};
+ghost use Rattle.std.specs.Prelude.{◌+◌, ◌≤◌, ◌<◌, IfSome};
 
 // The words of a case, and the number of bytes that it takes.
 #[derive(Clone, Copy)]
@@ -48,10 +48,8 @@ fn little(input: &[u8; 65536], at: usize, bytes: usize) -> u64
     requires { (at ≤ 65536) × (bytes < 9) }
 {
     let mut word: u64 = 0;
-    let mut j = bytes;
-    while 0 < j {
-        word = word % 72057594037927936 * 256 + byte(input, at + j);
-        j -= 1;
+    for j in (0..bytes).rev() {
+        word = word % 72057594037927936 * 256 + byte(input, at + 1 + j);
     }
     word
 }
@@ -67,13 +65,13 @@ fn token_at(input: &[u8; 65536], at: usize) -> Token
     let size = bytes + 1;
     if first == 247 {
         return Token {
-            size: size,
+            size,
             times: (number % 256) as usize,
             word: 0,
         };
     }
     Token {
-        size: size,
+        size,
         times: 1,
         word: if first < 247 { first } else { number },
     }
@@ -92,17 +90,17 @@ pub fn within(size: u64, most: usize) -> usize
 
 // Whether the call is known and the lengths of the trace and the image are within their bounds.
 fn sound(words: [u64; 2470]) -> bool {
-    (words[0] <= 20) & (words[9] <= 64) & (words[10] <= 1800)
+    words[0] <= 20 && words[9] <= 64 && words[10] <= 1800
 }
 
-// Unpacks the case at a place of the input held; its size is 0 where there is no whole case, or one that is out of bounds.
-pub fn unpack(input: &[u8; 65536], from: usize, have: usize) -> Case
+// Unpacks the case at a place of the input held; none where there is no whole case, or one that is out of bounds.
+pub fn unpack(input: &[u8; 65536], from: usize, have: usize) -> Option<Case>
     requires { (from ≤ have) × (have ≤ 65536) }
-    ensures { from + result.size ≤ have }
+    ensures { IfSome result (λ c. from + c.size ≤ have) }
 {
-    let mut words: [u64; 2470] = [0; 2470];
-    let mut n: usize = 0;
-    let mut end: usize = 670;
+    let mut words = [0; 2470];
+    let mut n = 0;
+    let mut end = 670;
     let mut at = from;
     while n < end && at < have {
         let t = token_at(input, at);
@@ -111,10 +109,10 @@ pub fn unpack(input: &[u8; 65536], from: usize, have: usize) -> Case
         at += t.size;
         end = 670 + within(words[10], 1800);
     }
-    let good = (n == end) & sound(words);
-    let size = if good && at <= have { at - from } else { 0 };
-    Case {
-        words: words,
-        size: size,
+    if n == end && at <= have && sound(words) {
+        let size = at - from;
+        Some(Case { words, size })
+    } else {
+        None
     }
 }

@@ -10,6 +10,7 @@ mod digest;
 mod input;
 mod listening_calls;
 mod reel_calls;
+mod results;
 mod store_calls;
 
 use case::run;
@@ -28,28 +29,23 @@ fn write_line(stdout: Stdout, number: u64, fields: [u64; 11]) -> bool {
 // The input held is input[at..have]. A turn takes the case that starts it, or reads where it holds no whole one.
 fn main(rt: HostRuntime) {
     let mut input = io::large_buffer();
-    let mut at: usize = 0;
-    let mut have: usize = 0;
-    let mut number: u64 = 0;
-    let mut turns: u64 = 18446744073709551614;
-    while 0 < turns {
-        let c = unpack(&input, at, have);
-        let size = c.size;
-        let words = c.words;
-        if size == 0 {
+    let mut at = 0;
+    let mut have = 0;
+    let mut number = 0;
+    for turn in 0..u64::MAX {
+        if let Some(c) = unpack(&input, at, have) {
+            if !write_line(rt.stdout(), number, run(c.words)) {
+                return;
+            }
+            at += c.size;
+            number += 1;
+        } else {
             let came = feed::refill(rt.stdin(), &mut input, at, have);
             if came == 0 {
                 return;
             }
             have = have - at + came;
             at = 0;
-        } else {
-            if !write_line(rt.stdout(), number, run(words)) {
-                return;
-            }
-            at += size;
-            number += 1;
         }
-        turns -= 1;
     }
 }

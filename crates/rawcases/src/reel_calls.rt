@@ -1,71 +1,45 @@
 // Calls of the reel library, answered by plain numbers.
-use crate::answered::{Answered, gives, tells};
-use reels::{LengthAnswer, PackAnswer, Reel, ReelAnswer};
-use store::{Desk, ReadAnswer, WriteAnswer};
+use crate::answered::{Answered, Told, source_number};
+use crate::results;
+use reels::{Contents, reel_of, words_of};
+use store::Desk;
 
-pub fn pack(desk: Desk, numbers: [u64; 4]) -> Answered {
-    let r = reels::pack(reels::reel_of(numbers));
-    let a = r.answer;
-    let words = r.words;
-    match a {
-        PackAnswer::Refused(k) => gives(k, 0, words, 0, desk),
-        PackAnswer::Packed => gives(20, 0, words, 0, desk),
+fn shown(contents: Contents) -> Told {
+    match contents {
+        Contents::Unused => Told::of(results::UNUSED, 0),
+        Contents::Found(reel) => Told::worded(results::REEL, words_of(reel)),
+        Contents::SpeedToFind(reel) => Told::worded(results::SPEED_TO_FIND, words_of(reel)),
     }
 }
 
-// The value says whose the words were that the reel was read from; 0 where it was not read.
-fn shows(a: ReelAnswer, value: u64, reel: Reel, desk: Desk) -> Answered {
-    let numbers = reels::words_of(reel);
-    match a {
-        ReelAnswer::Refused(k) => gives(k, value, numbers, 0, desk),
-        ReelAnswer::Unused => gives(35, value, numbers, 0, desk),
-        ReelAnswer::Found => gives(34, value, numbers, 0, desk),
-        ReelAnswer::SpeedToFind => gives(39, value, numbers, 0, desk),
-    }
+pub fn pack(desk: Desk, numbers: [u64; 4]) -> Answered {
+    Answered::beside(desk, reels::pack(reel_of(numbers)), |words| {
+        Told::worded(results::OK, words)
+    })
 }
 
 pub fn unpack(desk: Desk, words: [u64; 4]) -> Answered {
-    let r = reels::unpack(words);
-    let a = r.answer;
-    let reel = r.reel;
-    shows(a, 0, reel, desk)
+    Answered::beside(desk, reels::unpack(words), shown)
 }
 
-// Whose words the store read; 0 where it refused.
-fn source_of(a: ReadAnswer) -> u64 {
-    match a {
-        ReadAnswer::Refused(_) => 0,
-        ReadAnswer::Own => 22,
-        ReadAnswer::Copy => 23,
-        ReadAnswer::Home => 24,
-    }
-}
-
+// The value says whose the words were that the reel was read from; 0 where it was not read.
 pub fn read(image: &[u64], desk: Desk, session: u64, rec: u64) -> Answered {
     let r = reels::read(image, desk, session, rec);
-    let a = r.answer;
-    let source = r.source;
-    let reel = r.reel;
-    let left = r.desk;
-    shows(a, source_of(source), reel, left)
+    let mut answered = Answered::beside(r.desk, r.answer, shown);
+    answered.told.value = r.source.map_or(0, source_number);
+    answered
 }
 
 pub fn write(image: &[u64], desk: Desk, session: u64, rec: u64, numbers: [u64; 4]) -> Answered {
-    let r = reels::write(image, desk, session, rec, reels::reel_of(numbers));
-    let a = r.answer;
-    let left = r.desk;
-    match a {
-        WriteAnswer::Refused(k) => tells(k, 0, 0, left),
-        WriteAnswer::Taken(holder) => tells(7, holder, 0, left),
-        WriteAnswer::Ok => tells(20, 0, 0, left),
-    }
+    let reply = reels::write(image, desk, session, rec, reel_of(numbers));
+    Answered::of(reply, |()| Told::of(results::OK, 0))
 }
 
 pub fn tape_length(desk: Desk, words: [u64; 4]) -> Answered {
-    let a = reels::tape_length(words);
-    match a {
-        LengthAnswer::Refused(k) => tells(k, 0, 0, desk),
-        LengthAnswer::Unknown => tells(36, 0, 0, desk),
-        LengthAnswer::Metres(n) => tells(37, n, 0, desk),
-    }
+    Answered::beside(desk, reels::tape_length(words), |metres| {
+        metres.map_or(
+            Told::of(results::UNKNOWN, 0),
+            |n| Told::of(results::METRES, n),
+        )
+    })
 }

@@ -1,81 +1,62 @@
 // Calls of the store, answered by plain numbers.
-use crate::answered::{Answered, gives, tells};
+use crate::answered::{Answered, Told};
+use crate::results;
 use codec::Step;
 use lines::Outcome;
-use store::{Desk, LayAnswer, OpenAnswer, PublishAnswer, RecoverAnswer};
+use store::Desk;
 
 pub fn lay(image: &mut [u64], desk: Desk, n: u64, m: u64) -> Answered {
-    let a = store::lay(image, n, m);
-    match a {
-        LayAnswer::Refused(k) => tells(k, 0, 0, desk),
-        LayAnswer::Laid => tells(20, 0, 0, desk),
-    }
+    Answered::beside(desk, store::lay(image, n, m), |()| Told::of(results::OK, 0))
 }
 
 pub fn open(image: &mut [u64], trace: &mut [u64]) -> Answered {
-    let r = store::open(image, trace);
-    let a = r.answer;
-    let left = r.desk;
-    match a {
-        OpenAnswer::Refused(k) => tells(k, 0, r.entries, left),
-        OpenAnswer::Ok => tells(20, 0, r.entries, left),
-    }
+    Answered::storing(store::open(image, trace), |()| Told::of(results::OK, 0))
 }
 
 pub fn recover(image: &mut [u64], desk: Desk, trace: &mut [u64]) -> Answered {
     let r = store::recover(image, trace);
-    let a = r.answer;
-    match a {
-        RecoverAnswer::Refused(k) => tells(k, 0, r.entries, desk),
-        RecoverAnswer::Unsound(place) => tells(12, place, r.entries, desk),
-        RecoverAnswer::Clean => tells(32, 0, r.entries, desk),
-        RecoverAnswer::Replayed(persist) => tells(33, persist, r.entries, desk),
+    Answered {
+        entries: r.entries,
+        ..Answered::beside(desk, r.answer, |persist| {
+            persist.map_or(
+                Told::of(results::CLEAN, 0),
+                |p| Told::of(results::REPLAYED, p),
+            )
+        })
     }
 }
 
 pub fn publish_group(image: &mut [u64], desk: Desk, trace: &mut [u64], set: u16) -> Answered {
-    let r = desk.publish_group(image, trace, set);
-    let a = r.answer;
-    let left = r.desk;
-    match a {
-        PublishAnswer::Refused(k) => tells(k, 0, r.entries, left),
-        PublishAnswer::End(end) => tells(27, end, r.entries, left),
+    Answered::storing(desk.publish_group(image, trace, set), |end| {
+        Told::of(results::END, end)
+    })
+}
+
+fn shown(outcome: Outcome) -> Told {
+    match outcome {
+        Outcome::Refused(refusal) => Told::from(refusal),
+        Outcome::Ok => Told::of(results::OK, 0),
+        Outcome::Start(start) => Told::of(results::START, start),
+        Outcome::End(end) => Told::of(results::END, end),
+        Outcome::Sealed(persist) => Told::of(results::SEALED, persist),
+        Outcome::Empty => Told::of(results::EMPTY, 0),
+        Outcome::Own(words) => Told::worded(results::OWN, words),
+        Outcome::Copy(words) => Told::worded(results::COPY, words),
+        Outcome::Home(words) => Told::worded(results::HOME, words),
+        Outcome::Wait(session) => Told::of(results::WAIT, session),
+        Outcome::None => Told::of(results::NONE, 0),
+        Outcome::Held(persist) => Told::of(results::HELD, persist),
+        Outcome::Cleared(persist) => Told::of(results::CLEARED, persist),
+        Outcome::Cut | Outcome::Noted => Told::of(0, 0),
     }
 }
 
-// The number of a step's answer, and the value that goes with it.
-fn coded(o: Outcome) -> [u64; 2] {
-    match o {
-        Outcome::Refused(k, value) => [k, value],
-        Outcome::Ok => [20, 0],
-        Outcome::Start(start) => [21, start],
-        Outcome::End(end) => [27, end],
-        Outcome::Sealed(persist) => [26, persist],
-        Outcome::Empty => [25, 0],
-        Outcome::Own => [22, 0],
-        Outcome::Copy => [23, 0],
-        Outcome::Home => [24, 0],
-        Outcome::Wait(session) => [28, session],
-        Outcome::None => [29, 0],
-        Outcome::Held(persist) => [30, persist],
-        Outcome::Cleared(persist) => [31, persist],
-        Outcome::Cut => [0, 0],
-        Outcome::Noted => [0, 0],
+// The session call of a step. No step here lays or cuts.
+pub fn apply(image: &mut [u64], desk: Desk, trace: &mut [u64], step: Step) -> Answered {
+    let r = steps::apply(image, desk, trace, step);
+    Answered {
+        told: shown(r.outcome),
+        entries: r.entries,
+        desk: r.desk,
     }
-}
-
-// The session call of a step; `words` are those of a write. No step here lays or cuts.
-pub fn apply(
-    image: &mut [u64],
-    desk: Desk,
-    trace: &mut [u64],
-    step: Step,
-    words: [u64; 4],
-) -> Answered {
-    let r = steps::apply(image, desk, trace, step, words);
-    let o = r.outcome;
-    let read = r.words;
-    let left = r.desk;
-    let code = coded(o);
-    gives(code[0], code[1], read, r.entries, left)
 }

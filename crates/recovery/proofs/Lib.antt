@@ -1,5 +1,5 @@
+pub mod Searches
 pub mod OpenLaws
 pub mod Lists
 pub mod RecoverLaws
 pub mod ToldLaws
-pub mod Clauses

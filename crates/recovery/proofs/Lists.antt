@@ -6,6 +6,7 @@ use mathlib.Core.List.{List, [], ◌∷◌}
 use native.Mathlib.Omega.{arith}
 use lib.ListN.{length, length-append}
 use lib.Dec.{eqb}
+use Rattle.std.specs.Prelude.{Err}
 use borrow.Author.Tests.{eqb-true, eqb-false}
 use Rattle.layout.specs.Checks.{unless, room_for}
 use Rattle.layout.specs.Entries.{store, fence, stores}
@@ -22,7 +23,8 @@ use Rattle.journal.proofs.DenotedLaws.{denoted-distinct, denoted-few, replay-cou
 use Rattle.journal.proofs.LogFacts.{sound-of}
 use Rattle.recovery.specs.Recover.{slots_of, log_at, unsound_place, recover_fault, first_log, clean_b, recover_entries, replay_entries, recover_refused, recover_reply}
 use Rattle.recovery.specs.declared.recovering.RecoverReply.{RecoverReply}
-use Rattle.recovery.specs.declared.recovering.RecoverAnswer.TheVariants.{Refused, Unsound}
+use Rattle.layout.specs.Refusal.{cause}
+use Rattle.layout.specs.declared.refusal.Refusal.TheVariants.{LogUnsound}
 
 replay-length : (img : List ℕ) (p : ℕ) → length (replay_entries img p) ≡ length (denoted (log_at img p)) + 3
 replay-length img p =
@@ -56,7 +58,7 @@ recover-tidy img len =
     tidy-answered (λ (r : RecoverReply). r.entries) (recover_fault img len) (recover_refused img) _ _ (λ k. none-refused (eqb k 12) k)
     (λ z. tidy-cond (λ (r : RecoverReply). r.entries) (clean_b img) _ _ [] (replay_entries img (first_log img).place) (λ e. tidy-none 0 refl) (λ e. replays (taken-sound img len z e)))
   where
-    none-refused : (b : Bool) (k : ℕ) → (cond {A = RecoverReply} b (record { answer = Unsound (unsound_place img); entries = 0 }) (record { answer = Refused k; entries = 0 })).entries ≡ 0
+    none-refused : (b : Bool) (k : ℕ) → (cond {A = RecoverReply} b (record { answer = Err (LogUnsound (unsound_place img)); entries = 0 }) (record { answer = Err (cause k); entries = 0 })).entries ≡ 0
     none-refused true k = refl
     none-refused false k = refl
 

@@ -4,6 +4,7 @@ use mathlib.Core.Bool.{false, not}
 use mathlib.Core.Path.{◌≡◌, refl, sym, ap, ◌∙◌}
 use mathlib.Core.List.{List, []}
 use lib.Dec.{ltb}
+use Rattle.std.specs.Prelude.{⊤}
 use borrow.Author.Tests.{leb-true, ltb-true, not-true}
 use Rattle.layout.specs.Ceiling.{raise_entries}
 use Rattle.layout.specs.Checks.{unless, room_for}
@@ -16,10 +17,10 @@ use Rattle.layout.proofs.Shape.{Shaped, says-shaped}
 use Rattle.layout.proofs.TidyLaws.{tidy-answered}
 use Rattle.desk.specs.Coherent.{limit}
 use Rattle.recovery.specs.Open.{open_fault, open_entries, open_refused, opened, open_reply}
-use Rattle.recovery.specs.declared.opening.OpenReply.{OpenReply}
+use Rattle.desk.specs.declared.reply.StoringReply.{StoringReply}
 
 -- what open answers, and what it lists
-pub record Opens (img : List ℕ) (len : ℕ) (reply : OpenReply) (entries : List Entry) : Type 0 where
+pub record Opens (img : List ℕ) (len : ℕ) (reply : StoringReply ⊤) (entries : List Entry) : Type 0 where
   pub replies : open_reply img len ≡ reply
   pub lists : open_entries img len ≡ entries
 
@@ -58,4 +59,4 @@ open-opens img len z = record { replies = answered-zero _ open_refused _ z; list
 pub open-tidy : (img : List ℕ) (len : ℕ) → Tidy (open_fault img len) (open_reply img len).entries (open_entries img len)
 unfolding open_reply open_entries
 open-tidy img len =
-    tidy-answered (λ (r : OpenReply). r.entries) (open_fault img len) open_refused _ _ (λ k. refl) (λ z. raise-tidy (ceiling_of img + 1))
+    tidy-answered (λ (r : StoringReply ⊤). r.entries) (open_fault img len) open_refused _ _ (λ k. refl) (λ z. raise-tidy (ceiling_of img + 1))

@@ -4,5 +4,5 @@
 mod opening;
 mod recovering;
 
-pub use opening::{OpenAnswer, OpenReply, open};
-pub use recovering::{RecoverAnswer, RecoverReply, recover};
+pub use opening::open;
+pub use recovering::{RecoverReply, recover};

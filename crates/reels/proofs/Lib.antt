@@ -3,4 +3,3 @@ pub mod Good
 pub mod Unpacked
 pub mod Lengths
 pub mod Laws
-pub mod Clauses

@@ -1,12 +1,14 @@
 -- The laws of the reel library.
-use Rattle.std.specs.Prelude.{ℕ, ◌+◌, ◌*◌, ◌≤◌, ◌<◌, ◌≡◌, ◌⊎◌, List, [], ◌∷◌}
+use Rattle.std.specs.Prelude.{ℕ, ◌+◌, ◌*◌, ◌≤◌, ◌<◌, ◌≡◌, ◌⊎◌, List, [], ◌∷◌, Option, Some, None, Ok, Err, IsOk}
 use Rattle.std.proofs.Math.Option.{none, some}
+use Rattle.layout.specs.Refusal.{Answer, cause}
+use Rattle.layout.specs.declared.refusal.Refusal.{Refusal}
+use Rattle.layout.specs.declared.refusal.Refusal.TheVariants.{WrongShelf}
 use Rattle.layout.specs.Told.{Result, refused as store_refused, result}
 use Rattle.desk.specs.declared.state.Desk.{Desk}
 use Rattle.snapshot.specs.Read.{read_reply}
 use Rattle.snapshot.specs.Write.{write_says, write_reply}
-use Rattle.snapshot.specs.declared.reading.ReadAnswer.TheVariants.{Refused as StoreRefused}
-use Rattle.snapshot.specs.declared.writing.WriteAnswer.TheVariants.{Refused as WriteRefused}
+use Rattle.snapshot.specs.declared.seeing.Sight.{Sight}
 use Rattle.reels.specs.Reel.{reel_of, words_of, reel_fault, pack_fault}
 use Rattle.reels.specs.Told.{speed_to_find}
 use Rattle.reels.specs.Pack.{pack_reply}
@@ -15,17 +17,14 @@ use Rattle.reels.specs.Read.{read_reel_reply, source_told}
 use Rattle.reels.specs.Write.{write_reel_reply}
 use Rattle.reels.specs.Length.{speed_at, metres_of, length_answer}
 use Rattle.reels.specs.declared.reel.Reel.{Reel}
-use Rattle.reels.specs.declared.packing.PackAnswer.TheVariants.{Refused as PackRefused, Packed}
-use Rattle.reels.specs.declared.unpacking.ReelAnswer.TheVariants.{Refused, Unused, Found, SpeedToFind}
-use Rattle.reels.specs.declared.tape.LengthAnswer.{LengthAnswer}
-use Rattle.reels.specs.declared.tape.LengthAnswer.TheVariants.{Refused as LengthRefused, Unknown, Metres}
+use Rattle.reels.specs.declared.unpacking.Contents.TheVariants.{Unused, Found, SpeedToFind}
 
 -- a reel by its four numbers
 abbrev pub reel_by : ℕ → ℕ → ℕ → ℕ → Reel
 reel_by a b c d = record { shelf = a; carrier = b; speed = c; seconds = d }
 
 -- the tape length of ten thousand seconds at a speed code
-abbrev pub length_at : ℕ → LengthAnswer
+abbrev pub length_at : ℕ → Answer (Option ℕ)
 length_at code = length_answer (1 ∷ 1 ∷ code ∷ 10000 ∷ [])
 
 abbrev pub Shelved : ℕ → Type 0
@@ -50,54 +49,53 @@ pub record ReelLaws : Type 0 where
   pub read-faults : Faults reel_fault 0
   pub pack-faults : Faults pack_fault 1
   -- what is packed unpacks to itself, unmarked
-  pub unpack-packed : (r : Reel) → (pack_reply r).answer ≡ Packed → unpack_reply (pack_reply r).words ≡ record { answer = Found; reel = r }
+  pub unpack-packed : (r : Reel) (ws : List ℕ) → pack_reply r ≡ Ok ws → unpack_reply ws ≡ Ok (Found r)
   -- words that can be packed unpack, unmarked, and pack to themselves
-  pub pack-unpacked : (a b c d : ℕ) → let ws = a ∷ b ∷ c ∷ d ∷ [] in (pack_reply (reel_of ws)).answer ≡ Packed
-      → (unpack_reply ws ≡ record { answer = Found; reel = reel_of ws }) × (pack_reply (unpack_reply ws).reel ≡ record { answer = Packed; words = ws })
+  pub pack-unpacked : (a b c d : ℕ) → let ws = a ∷ b ∷ c ∷ d ∷ [] in IsOk (pack_reply (reel_of ws))
+      → (unpack_reply ws ≡ Ok (Found (reel_of ws))) × (pack_reply (reel_of ws) ≡ Ok ws)
   -- the marked words are exactly those that are good to read and cannot be packed
-  pub marked : (a b c d : ℕ) → (unpack_reply (a ∷ b ∷ c ∷ d ∷ [])).answer ≡ SpeedToFind
-      → (reel_fault (reel_by a b c d) ≡ 0) × ((pack_reply (reel_by a b c d)).answer ≡ Packed → ⊥)
-  pub marks : (a b c d : ℕ) → reel_fault (reel_by a b c d) ≡ 0 → ((pack_reply (reel_by a b c d)).answer ≡ Packed → ⊥)
-      → (unpack_reply (a ∷ b ∷ c ∷ d ∷ [])).answer ≡ SpeedToFind
+  pub marked : (a b c d : ℕ) (r : Reel) → unpack_reply (a ∷ b ∷ c ∷ d ∷ []) ≡ Ok (SpeedToFind r)
+      → (r ≡ reel_by a b c d) × (reel_fault r ≡ 0) × (IsOk (pack_reply r) → ⊥)
+  pub marks : (a b c d : ℕ) → reel_fault (reel_by a b c d) ≡ 0 → (IsOk (pack_reply (reel_by a b c d)) → ⊥)
+      → unpack_reply (a ∷ b ∷ c ∷ d ∷ []) ≡ Ok (SpeedToFind (reel_by a b c d))
   -- what words unpack to: good ones to their reel, open reels with code 0 and no others marked; bad ones, unless all are 0, to their number
   pub speed-to-find : (a d : ℕ) → reel_fault (reel_by a 1 0 d) ≡ 0
-      → (unpack_reply (a ∷ 1 ∷ 0 ∷ d ∷ []) ≡ record { answer = SpeedToFind; reel = reel_by a 1 0 d })
+      → (unpack_reply (a ∷ 1 ∷ 0 ∷ d ∷ []) ≡ Ok (SpeedToFind (reel_by a 1 0 d)))
       × (words_said (a ∷ 1 ∷ 0 ∷ d ∷ []) ≡ speed_to_find (reel_by a 1 0 d))
   pub good-read : (a b c d : ℕ) → reel_fault (reel_by a b c d) ≡ 0 → (b ≡ 1 → c ≡ 0 → ⊥)
-      → unpack_reply (a ∷ b ∷ c ∷ d ∷ []) ≡ record { answer = Found; reel = reel_by a b c d }
+      → unpack_reply (a ∷ b ∷ c ∷ d ∷ []) ≡ Ok (Found (reel_by a b c d))
   pub bad-read : (a b c d : ℕ) → (reel_fault (reel_by a b c d) ≡ 0 → ⊥) → (a ≡ 0 → b ≡ 0 → c ≡ 0 → d ≡ 0 → ⊥)
-      → unpack_reply (a ∷ b ∷ c ∷ d ∷ []) ≡ record { answer = Refused (reel_fault (reel_by a b c d)); reel = reel_by 0 0 0 0 }
+      → unpack_reply (a ∷ b ∷ c ∷ d ∷ []) ≡ Err (cause (reel_fault (reel_by a b c d)))
   -- an unused record is read as such, and is neither packed nor written
-  pub unused-read : unpack_reply (0 ∷ 0 ∷ 0 ∷ 0 ∷ []) ≡ record { answer = Unused; reel = reel_by 0 0 0 0 }
-  pub unused-packed : pack_reply (reel_by 0 0 0 0) ≡ record { answer = PackRefused 15; words = 0 ∷ 0 ∷ 0 ∷ 0 ∷ [] }
-  pub unused-written : (img : List ℕ) (d : Desk) (s r : ℕ) → write_reel_reply img d s r (reel_by 0 0 0 0) ≡ write_says d (WriteRefused 15)
+  pub unused-read : unpack_reply (0 ∷ 0 ∷ 0 ∷ 0 ∷ []) ≡ Ok Unused
+  pub unused-packed : pack_reply (reel_by 0 0 0 0) ≡ Err WrongShelf
+  pub unused-written : (img : List ℕ) (d : Desk) (s r : ℕ) → write_reel_reply img d s r (reel_by 0 0 0 0) ≡ write_says d (Err WrongShelf)
   -- a read that the store refuses is refused alike; any other gives what its words unpack to, own, copy and home as the store's
-  pub read-refused : (img : List ℕ) (d : Desk) (s r k : ℕ) → (read_reply img d s r).answer ≡ StoreRefused k
-      → read_reel_reply img d s r ≡ record { answer = Refused k; source = StoreRefused k; reel = reel_by 0 0 0 0; desk = (read_reply img d s r).desk }
-  pub read_taken : (img : List ℕ) (d : Desk) (s r : ℕ) → ((k : ℕ) → (read_reply img d s r).answer ≡ StoreRefused k → ⊥)
-      → let x = read_reply img d s r in let u = unpack_reply x.words in
-      read_reel_reply img d s r ≡ record { answer = u.answer; source = x.answer; reel = u.reel; desk = x.desk }
+  pub read-refused : (img : List ℕ) (d : Desk) (s r : ℕ) (k : Refusal) → (read_reply img d s r).answer ≡ Err k
+      → read_reel_reply img d s r ≡ record { answer = Err k; source = Err k; desk = (read_reply img d s r).desk }
+  pub read_taken : (img : List ℕ) (d : Desk) (s r : ℕ) (x : Sight) → (read_reply img d s r).answer ≡ Ok x
+      → read_reel_reply img d s r ≡ record { answer = unpack_reply x.words; source = Ok x.source; desk = (read_reply img d s r).desk }
   -- own, copy or home is told as it is, nothing of a refusal
   pub source-told : (x : Result) (n : ℕ) (ws : List ℕ) → source_told (result x n ws) ≡ some x
   pub source-refused : (k v : ℕ) → source_told (store_refused k v) ≡ none
-  -- a reel that may not be packed gives four zeros, and written it leaves all as it was, whatever is stored and whatever the store would say;
+  -- a reel that may not be packed gives no words, and written it leaves all as it was, whatever is stored and whatever the store would say;
   -- any other gives its words, and its write is the store's write of them
-  pub refused-packed : (r : Reel) → (pack_fault r ≡ 0 → ⊥) → pack_reply r ≡ record { answer = PackRefused (pack_fault r); words = 0 ∷ 0 ∷ 0 ∷ 0 ∷ [] }
-  pub taken-packed : (r : Reel) → pack_fault r ≡ 0 → pack_reply r ≡ record { answer = Packed; words = words_of r }
+  pub refused-packed : (r : Reel) → (pack_fault r ≡ 0 → ⊥) → pack_reply r ≡ Err (cause (pack_fault r))
+  pub taken-packed : (r : Reel) → pack_fault r ≡ 0 → pack_reply r ≡ Ok (words_of r)
   pub refused-written : (img : List ℕ) (d : Desk) (s r : ℕ) (reel : Reel) → (pack_fault reel ≡ 0 → ⊥)
-      → write_reel_reply img d s r reel ≡ write_says d (WriteRefused (pack_fault reel))
+      → write_reel_reply img d s r reel ≡ write_says d (Err (cause (pack_fault reel)))
   pub taken-written : (img : List ℕ) (d : Desk) (s r : ℕ) (reel : Reel) → pack_fault reel ≡ 0
       → write_reel_reply img d s r reel ≡ write_reply img d s r (words_of reel)
   -- one hour at code 3 is 685 m, whatever the shelf number in range
-  pub hour : (shelf : ℕ) → Shelved shelf → length_answer (shelf ∷ 1 ∷ 3 ∷ 3600 ∷ []) ≡ Metres 685
+  pub hour : (shelf : ℕ) → Shelved shelf → length_answer (shelf ∷ 1 ∷ 3 ∷ 3600 ∷ []) ≡ Ok (Some 685)
   -- the speeds
   pub lengths : length_at 0 ∷ length_at 1 ∷ length_at 2 ∷ length_at 3 ∷ length_at 4 ∷ length_at 5 ∷ []
-      ≡ Unknown ∷ Metres 476 ∷ Metres 953 ∷ Metres 1905 ∷ Metres 3810 ∷ Metres 7620 ∷ []
+      ≡ Ok None ∷ Ok (Some 476) ∷ Ok (Some 953) ∷ Ok (Some 1905) ∷ Ok (Some 3810) ∷ Ok (Some 7620) ∷ []
   -- the length of good words is unknown with code 0, whatever the carrier, else seconds times speed over 10,000, rounded down; of four zeros it
   -- is unknown, of other bad words it is refused by their number
-  pub unknown : (a b d : ℕ) → reel_fault (reel_by a b 0 d) ≡ 0 → length_answer (a ∷ b ∷ 0 ∷ d ∷ []) ≡ Unknown
-  pub known : (a b c d : ℕ) → reel_fault (reel_by a b c d) ≡ 0 → (c ≡ 0 → ⊥) → length_answer (a ∷ b ∷ c ∷ d ∷ []) ≡ Metres (metres_of d c)
+  pub unknown : (a b d : ℕ) → reel_fault (reel_by a b 0 d) ≡ 0 → length_answer (a ∷ b ∷ 0 ∷ d ∷ []) ≡ Ok None
+  pub known : (a b c d : ℕ) → reel_fault (reel_by a b c d) ≡ 0 → (c ≡ 0 → ⊥) → length_answer (a ∷ b ∷ c ∷ d ∷ []) ≡ Ok (Some (metres_of d c))
   pub rounded : (seconds code : ℕ) → let m = metres_of seconds code in let x = seconds * speed_at code in (m * 10000 ≤ x) × (x < m * 10000 + 10000)
-  pub unused-length : length_answer (0 ∷ 0 ∷ 0 ∷ 0 ∷ []) ≡ Unknown
+  pub unused-length : length_answer (0 ∷ 0 ∷ 0 ∷ 0 ∷ []) ≡ Ok None
   pub bad-length : (a b c d : ℕ) → (reel_fault (reel_by a b c d) ≡ 0 → ⊥) → (a ≡ 0 → b ≡ 0 → c ≡ 0 → d ≡ 0 → ⊥)
-      → length_answer (a ∷ b ∷ c ∷ d ∷ []) ≡ LengthRefused (reel_fault (reel_by a b c d))
+      → length_answer (a ∷ b ∷ c ∷ d ∷ []) ≡ Err (cause (reel_fault (reel_by a b c d)))

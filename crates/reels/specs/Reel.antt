@@ -2,7 +2,6 @@
 -- ask it. Which may be packed is `pack_fault`, in terms of it (Req 07): packing and writing ask that.
 use Rattle.std.specs.Prelude.{ℕ, Bool, false, ◌&&◌, cond, List, [], ◌∷◌, get_or, leb, eqb}
 use Rattle.layout.specs.Checks.{unless, first}
-use Rattle.snapshot.specs.Own.{zero_words}
 use Rattle.reels.specs.declared.reel.Reel.{Reel}
 
 -- word 0 is the shelf number, word 1 the carrier, word 2 the speed code, word 3 the playing time in seconds
@@ -15,10 +14,6 @@ words_of r = r.shelf ∷ r.carrier ∷ r.speed ∷ r.seconds ∷ []
 -- four zero words are an unused record
 abbrev pub unused_b : List ℕ → Bool
 unused_b ws = eqb (get_or ws 0 0) 0 && eqb (get_or ws 1 0) 0 && eqb (get_or ws 2 0) 0 && eqb (get_or ws 3 0) 0
-
--- the reel of an answer that has none
-abbrev pub no_reel : Reel
-no_reel = reel_of zero_words
 
 -- the shelf number is 1 to 999,999
 abbrev pub shelf_b : ℕ → Bool

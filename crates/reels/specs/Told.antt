@@ -1,13 +1,10 @@
--- What a caller of the library is told, in document 02's words, and what each answer enum tells of it. A write tells what the store's write
+-- What a caller of the library is told, in document 02's words. A write tells what the store's write
 -- does (`write_told`), with the numbers 15, 16 and 17 besides.
-use Rattle.std.specs.Prelude.{ℕ, List}
+use Rattle.std.specs.Prelude.{ℕ, List, Option, Some, None, Ok, Err}
+use Rattle.layout.specs.Refusal.{Answer, number_of}
 use Rattle.reels.specs.declared.reel.Reel.{Reel}
-use Rattle.reels.specs.declared.packing.PackAnswer.{PackAnswer}
-use Rattle.reels.specs.declared.packing.PackAnswer.TheVariants.{Refused as PackRefused, Packed}
-use Rattle.reels.specs.declared.unpacking.ReelAnswer.{ReelAnswer}
-use Rattle.reels.specs.declared.unpacking.ReelAnswer.TheVariants.{Refused, Unused, Found, SpeedToFind}
-use Rattle.reels.specs.declared.tape.LengthAnswer.{LengthAnswer}
-use Rattle.reels.specs.declared.tape.LengthAnswer.TheVariants.{Refused as LengthRefused, Unknown, Metres}
+use Rattle.reels.specs.declared.unpacking.Contents.{Contents}
+use Rattle.reels.specs.declared.unpacking.Contents.TheVariants.{Unused, Found, SpeedToFind}
 
 -- "no K"; the four words of a reel; a reel, a reel with its "speed to find", or "unused"; metres, or "unknown"
 pub data ReelTold : Type 0 where
@@ -19,19 +16,25 @@ pub data ReelTold : Type 0 where
   unknown : ReelTold
   metres : ℕ → ReelTold
 
--- the words stand beside the answer
-abbrev pub pack_told : PackAnswer → List ℕ → ReelTold
-pack_told (PackRefused k) ws = refused k
-pack_told Packed ws = packed ws
+-- what an answer tells: a refusal by its number
+abbrev pub tells : {A : Type 0} → (A → ReelTold) → Answer A → ReelTold
+tells done (Err r) = refused (number_of r)
+tells done (Ok x) = done x
 
--- the reel stands beside the answer
-abbrev pub reel_told : ReelAnswer → Reel → ReelTold
-reel_told (Refused k) r = refused k
-reel_told Unused r = unused
-reel_told Found r = found r
-reel_told SpeedToFind r = speed_to_find r
+abbrev pub pack_told : Answer (List ℕ) → ReelTold
+pack_told = tells packed
 
-abbrev pub length_told : LengthAnswer → ReelTold
-length_told (LengthRefused k) = refused k
-length_told Unknown = unknown
-length_told (Metres n) = metres n
+abbrev pub contents_told : Contents → ReelTold
+contents_told Unused = unused
+contents_told (Found r) = found r
+contents_told (SpeedToFind r) = speed_to_find r
+
+abbrev pub reel_told : Answer Contents → ReelTold
+reel_told = tells contents_told
+
+abbrev pub metres_told : Option ℕ → ReelTold
+metres_told None = unknown
+metres_told (Some n) = metres n
+
+abbrev pub length_told : Answer (Option ℕ) → ReelTold
+length_told = tells metres_told

@@ -9,9 +9,9 @@ mod tape;
 mod unpacking;
 mod writing;
 
-pub use packing::{PackAnswer, PackReply, pack};
+pub use packing::pack;
 pub use reading::{ReadReelReply, read};
 pub use reel::{Reel, reel_of, shelved, words_of};
-pub use tape::{LengthAnswer, tape_length};
-pub use unpacking::{ReelAnswer, UnpackReply, unpack};
+pub use tape::tape_length;
+pub use unpacking::{Contents, unpack};
 pub use writing::write;

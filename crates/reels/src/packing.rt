@@ -1,40 +1,16 @@
 // Pack: the four words of a reel that may be packed.
 ghost use Rattle.std.specs.Prelude.{◌≡◌};
-ghost use Rattle.reels.specs.Pack.{packs, pack_reply, pack_said};
+ghost use Rattle.reels.specs.Pack.{pack_reply, pack_said};
 ghost use Rattle.reels.specs.Told.{pack_told};
 
-use crate::reel::{Reel, pack_fault, words_of};
-
-#[derive(Clone, Copy)]
-pub enum PackAnswer {
-    Refused(u64),
-    Packed,
-}
-
-// Four zeros where the reel is refused.
-#[derive(Clone, Copy)]
-pub struct PackReply {
-    pub answer: PackAnswer,
-    pub words: [u64; 4],
-}
-
-fn packs(answer: PackAnswer, words: [u64; 4]) -> PackReply
-    ensures { result ≡ packs answer words }
-{
-    PackReply {
-        answer: answer,
-        words: words,
-    }
-}
+use crate::reel::{Reel, check_packing, words_of};
+use layout::Refusal;
 
 // Packs a reel into the four words of a record.
-pub fn pack(reel: Reel) -> PackReply
+pub fn pack(reel: Reel) -> Result<[u64; 4], Refusal>
     ensures reply { result ≡ pack_reply reel }
-    ensures told { pack_told result.answer result.words ≡ pack_said reel }
+    ensures told { pack_told result ≡ pack_said reel }
 {
-    let fault = pack_fault(reel);
-    if fault != 0 {
-        return packs(PackAnswer::Refused(fault), [0; 4]);
-    }
-    packs(PackAnswer::Packed, words_of(reel))
+    check_packing(reel)?;
+    Ok(words_of(reel))
 }

@@ -1,50 +1,31 @@
 // Unpack: the reel that the four words of a record name.
 ghost use Rattle.std.specs.Prelude.{◌≡◌};
-ghost use Rattle.reels.specs.Unpack.{unpacks, unpack_reply, words_said};
+ghost use Rattle.reels.specs.Unpack.{unpack_reply, words_said};
 ghost use Rattle.reels.specs.Told.{reel_told};
 
-use crate::reel::{Reel, no_reel, reel_fault, reel_of, speedless, unused};
+use crate::reel::{Reel, check_reel, reel_of, speedless, unused};
+use layout::Refusal;
 
-// Found and SpeedToFind come with the reel; the latter marks an open reel without a speed.
-#[derive(Clone, Copy)]
-pub enum ReelAnswer {
-    Refused(u64),
+// What the words of a record are: unused, or a reel; of an open reel without a speed that is still to find.
+#[derive(Clone, Copy, PartialEq, Eq, Debug)]
+pub enum Contents {
     Unused,
-    Found,
-    SpeedToFind,
-}
-
-// Four zeros where the record is unused or refused.
-#[derive(Clone, Copy)]
-pub struct UnpackReply {
-    pub answer: ReelAnswer,
-    pub reel: Reel,
-}
-
-pub fn unpacks(answer: ReelAnswer, reel: Reel) -> UnpackReply
-    ensures { result ≡ unpacks answer reel }
-{
-    UnpackReply {
-        answer: answer,
-        reel: reel,
-    }
+    Found(Reel),
+    SpeedToFind(Reel),
 }
 
 // Unpacks the four words of a record.
-pub fn unpack(words: [u64; 4]) -> UnpackReply
+pub fn unpack(words: [u64; 4]) -> Result<Contents, Refusal>
     ensures reply { result ≡ unpack_reply words }
-    ensures told { reel_told result.answer result.reel ≡ words_said words }
+    ensures told { reel_told result ≡ words_said words }
 {
     if unused(words) {
-        return unpacks(ReelAnswer::Unused, no_reel());
+        return Ok(Contents::Unused);
     }
     let reel = reel_of(words);
-    let fault = reel_fault(reel);
-    if fault != 0 {
-        return unpacks(ReelAnswer::Refused(fault), no_reel());
-    }
+    check_reel(reel)?;
     if speedless(reel) {
-        return unpacks(ReelAnswer::SpeedToFind, reel);
+        return Ok(Contents::SpeedToFind(reel));
     }
-    unpacks(ReelAnswer::Found, reel)
+    Ok(Contents::Found(reel))
 }

@@ -1,24 +1,23 @@
--- What a record counts as: by what its words unpack to, and by the tests of the report.
+-- What a record counts as, and the tests of the report.
 use Prim.Native.Nat.{ℕ, ◌≤◌}
-use mathlib.Core.Path.{◌≡◌, refl, sym, ap, ◌∙◌, subst}
+use mathlib.Core.Path.{◌≡◌, refl, sym}
 use mathlib.Core.Bool.{Bool, true, false, ◌&&◌, not, cond, false≢true}
 use mathlib.Core.List.{List}
-use mathlib.Core.Logic.{◌⊎◌, inl, inr}
+use mathlib.Core.Logic.{inl, inr}
 use native.Mathlib.Omega.{arith}
 use lib.ListN.{get_or}
 use lib.Dec.{leb, eqb}
 use borrow.Author.Tests.{eqb-true, ne_eqb, le-leb}
 use Rattle.layout.specs.Checks.{first}
 use Rattle.reels.specs.Laws.{Takes}
-use Rattle.reels.specs.Reel.{reel_of, unused_b, speedless_b, reel_fault}
-use Rattle.reels.specs.Unpack.{unpack_reply}
-use Rattle.reels.specs.declared.unpacking.ReelAnswer.TheVariants.{Refused, Unused, Found, SpeedToFind}
-use Rattle.reels.specs.declared.unpacking.UnpackReply.{UnpackReply}
+use Rattle.reels.specs.Reel.{reel_of, unused_b, reel_fault}
+use Rattle.reels.specs.declared.reel.Reel.{Reel}
 use Rattle.reels.proofs.Faults.{both}
 use Rattle.reels.proofs.Good.{good-known}
-use Rattle.reels.proofs.Unpacked.{unpacked}
 use Rattle.report.specs.Report.{reel_b, on_b, bad_b}
-use Rattle.report.specs.Turns.{kind_of}
+use Rattle.report.specs.Changes.{kind_of, counted_as}
+use Rattle.report.specs.declared.counting.RecordKind.{RecordKind}
+use Rattle.report.specs.declared.counting.RecordKind.TheVariants.{Unused as CountsUnused, Reel as OnReel, Bad}
 
 takes-known : (carrier code : ℕ) → Takes 0 carrier code → (1 ≤ carrier) × (carrier ≤ 3)
 takes-known carrier code (inl (e, low, high)) = (omega (arith, e), omega (arith, e))
@@ -30,40 +29,8 @@ module _ (ws : List ℕ) where
   abbrev kind-by : Bool → Bool → ℕ
   kind-by u g = cond u 0 (cond g (reel_of ws).carrier 4)
 
-  -- ---- by what the words unpack to
-  pub kind-bad : (x : UnpackReply) → x ≡ unpack_reply ws → (k : ℕ) → x.answer ≡ Refused k → kind_of ws ≡ 4
-  unfolding kind_of unpack_reply
-  kind-bad x e k a = go (unused_b ws) (reel_b ws) (speedless_b (reel_of ws)) (ap (λ (z : UnpackReply). z.answer) (sym e) ∙ a)
-    where
-      go : (u g m : Bool) → (unpacked ws u g m).answer ≡ Refused k → kind-by u g ≡ 4
-      go true g m y = let w : ◌≡◌ {A = ℕ} 0 1 = cc in absurd (omega arith)
-      go false true true y = let w : ◌≡◌ {A = ℕ} 0 1 = cc in absurd (omega arith)
-      go false true false y = let w : ◌≡◌ {A = ℕ} 0 1 = cc in absurd (omega arith)
-      go false false m y = refl
-
-  pub kind-unused : (x : UnpackReply) → x ≡ unpack_reply ws → x.answer ≡ Unused → kind_of ws ≡ 0
-  unfolding kind_of unpack_reply
-  kind-unused x e a = go (unused_b ws) (reel_b ws) (speedless_b (reel_of ws)) (ap (λ (z : UnpackReply). z.answer) (sym e) ∙ a)
-    where
-      go : (u g m : Bool) → (unpacked ws u g m).answer ≡ Unused → kind-by u g ≡ 0
-      go true g m y = refl
-      go false true true y = let w : ◌≡◌ {A = ℕ} 0 1 = cc in absurd (omega arith)
-      go false true false y = let w : ◌≡◌ {A = ℕ} 0 1 = cc in absurd (omega arith)
-      go false false m y = let w : ◌≡◌ {A = ℕ} 0 1 = cc in absurd (omega arith)
-
-  -- a reel that is found, or marked: its own carrier
-  pub kind-reel : (x : UnpackReply) → x ≡ unpack_reply ws → (x.answer ≡ Found) ⊎ (x.answer ≡ SpeedToFind) → kind_of ws ≡ x.reel.carrier
-  unfolding kind_of unpack_reply
-  kind-reel x e a =
-      go (unused_b ws) (reel_b ws) (speedless_b (reel_of ws)) (subst (λ (z : UnpackReply). (z.answer ≡ Found) ⊎ (z.answer ≡ SpeedToFind)) e a)
-      ∙ ap (λ (z : UnpackReply). z.reel.carrier) (sym e)
-    where
-      go : (u g m : Bool) → ((unpacked ws u g m).answer ≡ Found) ⊎ ((unpacked ws u g m).answer ≡ SpeedToFind) → kind-by u g ≡ (unpacked ws u g m).reel.carrier
-      go true g m (inl y) = let w : ◌≡◌ {A = ℕ} 0 1 = cc in absurd (omega arith)
-      go true g m (inr y) = let w : ◌≡◌ {A = ℕ} 0 1 = cc in absurd (omega arith)
-      go false true m y = refl
-      go false false m (inl y) = let w : ◌≡◌ {A = ℕ} 0 1 = cc in absurd (omega arith)
-      go false false m (inr y) = let w : ◌≡◌ {A = ℕ} 0 1 = cc in absurd (omega arith)
+  abbrev counted-by : Bool → Bool → RecordKind
+  counted-by u g = cond u CountsUnused (cond g (OnReel (reel_of ws)) Bad)
 
   -- ---- what is known of the tests: an unused record is no reel, and a reel's carrier is 1 to 3
   pub unused-no-reel : unused_b ws ≡ true → reel_b ws ≡ false
@@ -117,12 +84,48 @@ module _ (ws : List ℕ) where
       go false true k = ne_eqb (reel_of ws).carrier 0 (λ z. omega (arith, z, (k refl).0))
       go false false k = refl
 
+  -- ---- the kind and the tests, by what it counts as
+  pub as-reel : (r : Reel) → counted_as ws ≡ OnReel r
+      → (r ≡ reel_of ws) × (kind_of ws ≡ r.carrier) × (reel_b ws ≡ true) × (bad_b ws ≡ false) × (unused_b ws ≡ false)
+  unfolding counted_as kind_of
+  as-reel r e = go (unused_b ws) (reel_b ws) e
+    where
+      go : (u g : Bool) → counted-by u g ≡ OnReel r
+          → (r ≡ reel_of ws) × (kind-by u g ≡ r.carrier) × (g ≡ true) × ((not u && not g) ≡ false) × (u ≡ false)
+      go true g e = cc
+      go false true e = let q : r ≡ reel_of ws = cc in (q, rw q refl, refl, refl, refl)
+      go false false e = cc
+
+  pub as-unused : counted_as ws ≡ CountsUnused → (kind_of ws ≡ 0) × (reel_b ws ≡ false) × (bad_b ws ≡ false) × (unused_b ws ≡ true)
+  unfolding counted_as kind_of
+  as-unused e = go (unused_b ws) (reel_b ws) unused-no-reel e
+    where
+      go : (u g : Bool) → (u ≡ true → g ≡ false) → counted-by u g ≡ CountsUnused → (kind-by u g ≡ 0) × (g ≡ false) × ((not u && not g) ≡ false) × (u ≡ true)
+      go true g h e = (refl, h refl, refl, refl)
+      go false true h e = cc
+      go false false h e = cc
+
+  pub as-bad : counted_as ws ≡ Bad → (kind_of ws ≡ 4) × (reel_b ws ≡ false) × (bad_b ws ≡ true) × (unused_b ws ≡ false)
+  unfolding counted_as kind_of
+  as-bad e = go (unused_b ws) (reel_b ws) e
+    where
+      go : (u g : Bool) → counted-by u g ≡ Bad → (kind-by u g ≡ 4) × (g ≡ false) × ((not u && not g) ≡ true) × (u ≡ false)
+      go true g e = cc
+      go false true e = cc
+      go false false e = (refl, refl, refl, refl)
+
+  pub no-reel : ((r : Reel) → counted_as ws ≡ OnReel r → ⊥) → reel_b ws ≡ false
+  unfolding counted_as
+  no-reel n = go (unused_b ws) (reel_b ws) unused-no-reel n
+    where
+      go : (u g : Bool) → (u ≡ true → g ≡ false) → ((r : Reel) → counted-by u g ≡ OnReel r → ⊥) → g ≡ false
+      go true g h n = h refl
+      go false true h n = absurd (n (reel_of ws) refl)
+      go false false h n = refl
+
   -- the seconds of a reel are few
   pub reel-seconds : reel_b ws ≡ true → (reel_of ws).seconds ≤ 359999
   reel-seconds e = (good-known (reel_of ws) e).seconds
-
-  pub kind-seconds : 1 ≤ kind_of ws → kind_of ws ≤ 3 → (reel_of ws).seconds ≤ 359999
-  kind-seconds low high = reel-seconds (sym reel-test ∙ rw (le-leb 1 (kind_of ws) low, le-leb (kind_of ws) 3 high) refl)
 
   pub kind-most : kind_of ws ≤ 4
   unfolding kind_of

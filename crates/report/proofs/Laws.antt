@@ -1,35 +1,38 @@
 -- The laws of the report hold.
 use Prim.Native.Nat.{ℕ, zero, suc, ◌+◌, ◌-◌, ◌*◌, ◌<◌, ◌≤◌}
 use mathlib.Core.Path.{◌≡◌, refl, sym, ap, ◌∙◌, subst}
-use mathlib.Core.Bool.{Bool, true, false, ◌&&◌, ◌||◌, not, cond, false≢true}
+use mathlib.Core.Bool.{Bool, true, false, ◌&&◌, cond, false≢true}
 use mathlib.Core.List.{List, [], ◌∷◌}
 use native.Mathlib.Omega.{arith}
 use lib.ListN.{length, get_or, length-drop}
 use lib.Seq.{get_or-drop}
 use lib.Dec.{leb, eqb}
-use borrow.Author.Tests.{eq-eqb, ne_eqb, eqb-true, le-leb, lt-leb, leb-true, leb-false}
+use borrow.Author.Tests.{eq-eqb, ne_eqb, eqb-true, le-leb, lt-leb}
 use Rattle.layout.specs.Below.{count_below}
-use Rattle.layout.specs.Checks.{first}
+use Rattle.layout.specs.Checks.{first, answered}
 use Rattle.layout.specs.Image.{word, records_of, sessions_of, shaped_b, occupied_b, persist_at, home_words}
 use Rattle.layout.proofs.Counts.{by-same, count_same}
 use Rattle.layout.proofs.Says.{Says, says_ne, says_any, says-not, by-test}
 use Rattle.layout.proofs.Shape.{says-shaped}
-use Rattle.layout.proofs.BelowLaws.{count-more}
+use Rattle.layout.proofs.ToldLaws.{known}
+use Rattle.std.specs.Prelude.{Ok, Option, Some, None}
+use Rattle.report.specs.declared.summing.Totals.{Totals}
 use Rattle.layout.proofs.ChecksLaws.{answered-zero, answered-not}
 use Rattle.reels.specs.Reel.{reel_of, unused_b, reel_fault}
 use Rattle.reels.proofs.Faults.{both, denied, read-faults}
 use Rattle.reels.proofs.Good.{good-known, not-unused}
-use Rattle.report.specs.Laws.{Good, OnCarrier, NotAReel, record_at, Right, Clean, line_by, ReportLaws}
+use Rattle.report.specs.Laws.{Good, OnCarrier, NotAReel, record_at, Right, Clean, line_by, no, ReportLaws}
 use Rattle.report.specs.Lines.{line_of, change_of}
 use Rattle.report.specs.Report.{reel_b, on_b, bad_b, sum_below, count_to, seconds_to, seconds_at, count_of, seconds_of, report_fault, table_to, reported, refused_by, filled, report_reply, report_said}
-use Rattle.report.specs.Told.{refused, report}
-use Rattle.report.specs.Turns.{kind_of, kind_at, reel_change, change_at, idle_at}
+use Rattle.report.specs.Told.{refused, report, report_told}
+use Rattle.report.specs.Changes.{kind_of, change_at}
 use Rattle.report.specs.declared.line.CarrierLine.{CarrierLine}
 use Rattle.report.specs.declared.line.Change.{Change}
-use Rattle.report.proofs.Checks.{passed}
+use Rattle.report.proofs.Checks.{passed, refused-table, filled-table}
 use Rattle.report.proofs.Counted.{unused-no-reel, on_test, reel-test, bad-test, unused-test, carrier-known, kind-most}
-use Rattle.report.proofs.Sums.{sum_more, sum_same, seconds-most}
-use Rattle.report.proofs.Turned.{change-early, change-late, idle-late}
+use Rattle.report.proofs.Sums.{sum_same, seconds-most, counted, left_out}
+use Rattle.report.proofs.Changed.{change-reel, change-none}
+use Rattle.report.proofs.Table.{one-record}
 
 -- ---- which records count as what
 module _ (a b c d : ℕ) where
@@ -115,26 +118,9 @@ module _ (img : List ℕ) where
   seconds-to (suc n) = omega (arith, seconds-to n, shared (home_words img n) (reel_of (home_words img n)).seconds)
 
 -- ---- the sums, record by record
-module _ (t : List ℕ → Bool) (img : List ℕ) where
-  none-counted : (count_to t img 0 ≡ 0) × (seconds_to t img 0 ≡ 0)
-  unfolding count_below sum_below
-  none-counted = (refl, refl)
-
-  counted : (n : ℕ) → t (record_at img n) ≡ true
-      → (count_to t img (n + 1) ≡ count_to t img n + 1) × (seconds_to t img (n + 1) ≡ seconds_to t img n + word img (4 + 4 * n + 3))
-  counted n e = (
-    count-more (λ r. t (home_words img r)) n ∙ ap (λ (b : Bool). count_to t img n + cond b 1 0) e,
-    sum_more (seconds_at t img) n ∙ ap (λ (b : Bool). seconds_to t img n + cond b (word img (4 + 4 * n + 3)) 0) e,
-  )
-
-  left_out : (n : ℕ) → t (record_at img n) ≡ false → (count_to t img (n + 1) ≡ count_to t img n) × (seconds_to t img (n + 1) ≡ seconds_to t img n)
-  left_out n e = (
-    count-more (λ r. t (home_words img r)) n ∙ ap (λ (b : Bool). count_to t img n + cond b 1 0) e ∙ add-zero,
-    sum_more (seconds_at t img) n ∙ ap (λ (b : Bool). seconds_to t img n + cond b (word img (4 + 4 * n + 3)) 0) e ∙ add-zero,
-  )
-    where
-      add-zero : {m : ℕ} → m + 0 ≡ m
-      add-zero = omega arith
+none-counted : (t : List ℕ → Bool) (img : List ℕ) → (count_to t img 0 ≡ 0) × (seconds_to t img 0 ≡ 0)
+unfolding count_below sum_below
+none-counted t img = (refl, refl)
 
 same-records : (t : List ℕ → Bool) (img other : List ℕ) → records_of img ≡ records_of other → ((n : ℕ) → n < records_of img → record_at img n ≡ record_at other n)
     → (count_of t img ≡ count_of t other) × (seconds_of t img ≡ seconds_of t other)
@@ -188,14 +174,6 @@ module _ (img : List ℕ) (room : ℕ) where
 
 -- ---- the table and the reply
 module _ (img : List ℕ) where
-  refused-table : (ls : List CarrierLine) → (report_fault img (length ls) ≡ 0 → ⊥) → reported img ls ≡ ls
-  unfolding reported
-  refused-table ls n = answered-not (report_fault img (length ls)) (λ k. ls) (table_to img (records_of img) ls) n
-
-  filled-table : (ls : List CarrierLine) → report_fault img (length ls) ≡ 0 → reported img ls ≡ table_to img (records_of img) ls
-  unfolding reported
-  filled-table ls z = answered-zero (report_fault img (length ls)) (λ k. ls) (table_to img (records_of img) ls) z
-
   line_at : (ls : List CarrierLine) (d : CarrierLine) (i : ℕ) → i < 3
       → get_or (table_to img (records_of img) ls) i d ≡ line_of (count_of (on_b (i + 1)) img) (seconds_of (on_b (i + 1)) img)
   line_at ls d zero l = refl
@@ -212,33 +190,42 @@ module _ (img : List ℕ) where
   table-rest : (ls : List CarrierLine) (d : CarrierLine) (i : ℕ) → 3 ≤ i → get_or (reported img ls) i d ≡ get_or ls i d
   table-rest ls d i l =
       by-same (report_fault img (length ls)) 0
-      (λ z. ap (λ (t : List CarrierLine). get_or t i d) (filled-table ls z) ∙ past-third ls d i l)
-      (λ n. ap (λ (t : List CarrierLine). get_or t i d) (refused-table ls n))
+      (λ z. ap (λ (t : List CarrierLine). get_or t i d) (filled-table img ls z) ∙ past-third ls d i l)
+      (λ n. ap (λ (t : List CarrierLine). get_or t i d) (refused-table img ls n))
 
   table-length : (ls : List CarrierLine) → length (reported img ls) ≡ length ls
   table-length ls =
       by-same (report_fault img (length ls)) 0
-      (λ z. ap (λ (t : List CarrierLine). length t) (filled-table ls z) ∙ whole (passed img (length ls) z).lines)
-      (λ n. ap (λ (t : List CarrierLine). length t) (refused-table ls n))
+      (λ z. ap (λ (t : List CarrierLine). length t) (filled-table img ls z) ∙ whole (passed img (length ls) z).lines)
+      (λ n. ap (λ (t : List CarrierLine). length t) (refused-table img ls n))
     where
       whole : 3 ≤ length ls → length (table_to img (records_of img) ls) ≡ length ls
       whole l = omega (arith, length-drop 3 ls)
 
   refused-reply : (room : ℕ) → (report_fault img room ≡ 0 → ⊥) → report_reply img room ≡ refused_by (report_fault img room)
   unfolding report_reply
-  refused-reply room n = answered-not (report_fault img room) refused_by (filled img) n
+  refused-reply room n = answered-not (report_fault img room) refused_by (Ok (filled img)) n
 
-  filled-reply : (room : ℕ) → report_fault img room ≡ 0 → report_reply img room ≡ filled img
+  filled-reply : (room : ℕ) → report_fault img room ≡ 0 → report_reply img room ≡ Ok (filled img)
   unfolding report_reply
-  filled-reply room z = answered-zero (report_fault img room) refused_by (filled img) z
+  filled-reply room z = answered-zero (report_fault img room) refused_by (Ok (filled img)) z
 
   table-line : (ls : List CarrierLine) (d : CarrierLine) → report_fault img (length ls) ≡ 0 → (i : ℕ) → i < 3
       → get_or (reported img ls) i d ≡ line_by (count_of (on_b (i + 1)) img) (seconds_of (on_b (i + 1)) img)
-  table-line ls d z i l = ap (λ (t : List CarrierLine). get_or t i d) (filled-table ls z) ∙ line_at ls d i l
+  table-line ls d z i l = ap (λ (t : List CarrierLine). get_or t i d) (filled-table img ls z) ∙ line_at ls d i l
 
-  one-call : (ls : List CarrierLine) (d : CarrierLine) → report_fault img (length ls) ≡ 0 → let t = reported img ls in let r = report_reply img (length ls) in
+  -- what is filled in has passed the checks
+  filled-passed : (room : ℕ) (r : Totals) → report_reply img room ≡ Ok r → (report_fault img room ≡ 0) × (r ≡ filled img)
+  unfolding report_reply answered
+  filled-passed room r e = go (report_fault img room) e
+    where
+      go : (k : ℕ) → answered k refused_by (Ok (filled img)) ≡ Ok r → (k ≡ 0) × (r ≡ filled img)
+      go zero e = let w : r ≡ filled img = cc in (refl, w)
+      go (suc k) e = let w : ◌≡◌ {A = ℕ} 0 1 = cc in absurd (omega arith)
+
+  one-call : (ls : List CarrierLine) (d : CarrierLine) (r : Totals) → report_reply img (length ls) ≡ Ok r → let t = reported img ls in
       (get_or t 0 d).reels + (get_or t 1 d).reels + (get_or t 2 d).reels + r.bad + r.unused ≡ word img 1
-  one-call ls d z = rw (filled-table ls z, filled-reply (length ls) z) (counts-to img (records_of img))
+  one-call ls d r e = let p = filled-passed (length ls) r e in rw (filled-table img ls p.0, p.1) (counts-to img (records_of img))
 
   refused-said : (room : ℕ) → (report_fault img room ≡ 0 → ⊥) → report_said img room ≡ refused (report_fault img room)
   unfolding report_said
@@ -249,64 +236,31 @@ module _ (img : List ℕ) where
   unfolding report_said
   filled-said room z = answered-zero (report_fault img room) refused _ z
 
--- ---- the turns
-on-known : (b : ℕ) (ws : List ℕ) → on_b b ws ≡ true → (reel_b ws ≡ true) × ((reel_of ws).carrier ≡ b)
-on-known b ws e = let p = both (reel_b ws) (eqb (reel_of ws).carrier b) e in (p.0, eqb-true (reel_of ws).carrier b p.1)
-
--- a reel is not unused, and counts as its carrier
-reel-kind : (ws : List ℕ) → reel_b ws ≡ true → (unused_b ws ≡ false) × (kind_of ws ≡ (reel_of ws).carrier)
-unfolding kind_of
-reel-kind ws e = let u = denied (unused_b ws) (λ y. false≢true (sym (unused-no-reel ws y) ∙ e)) in (u, rw (u, e) refl)
-
-change-by : (b s : ℕ) → 1 ≤ b → b ≤ 3 → reel_change b s ≡ change_of (b - 1) 1 1 s
-change-by zero s low high = absurd (omega arith)
-change-by (suc zero) s low high = refl
-change-by (suc (suc zero)) s low high = refl
-change-by (suc (suc (suc zero))) s low high = refl
-change-by (suc (suc (suc (suc b)))) s low high = absurd (omega arith)
-
+-- ---- the changes
 module _ (img : List ℕ) (n : ℕ) where
-  back : n + 3 - 3 ≡ n
-  back = omega arith
+  reel-change : (b : ℕ) → on_b b (home_words img n) ≡ true
+      → change_at img n ≡ Some (change_of (b - 1) 1 1 (reel_of (home_words img n)).seconds)
+  reel-change b e =
+      let p = both (reel_b (home_words img n)) (eqb (reel_of (home_words img n)).carrier b) e in
+      change-reel img n p.0 ∙ ap (λ (k : ℕ). Some (change_of (k - 1) 1 1 (reel_of (home_words img n)).seconds)) (eqb-true (reel_of (home_words img n)).carrier b p.1)
 
-  idle-is : idle_at img (n + 3) ≡ (unused_b (home_words img n) || bad_b (home_words img n))
-  idle-is =
-      idle-late img (n + 3) (omega arith) ∙ ap (λ (r : ℕ). eqb (kind_at img r) 0 || eqb (kind_at img r) 4) back
-      ∙ ap (λ (b : Bool). b || eqb (kind_at img n) 4) (unused-test (home_words img n)) ∙ ap (λ (b : Bool). unused_b (home_words img n) || b) (bad-test (home_words img n))
-
-  change-is : change_at img (n + 3) ≡ reel_change (kind_at img n) (reel_of (home_words img n)).seconds
-  change-is = change-late img (n + 3) (omega arith) ∙ ap (λ (r : ℕ). reel_change (kind_at img r) (reel_of (home_words img r)).seconds) back
-
-  reel-turn : (b : ℕ) → on_b b (home_words img n) ≡ true
-      → (idle_at img (n + 3) ≡ false) × (change_at img (n + 3) ≡ change_of (b - 1) 1 1 (reel_of (home_words img n)).seconds)
-  reel-turn b e =
-      let k = on-known b (home_words img n) e in
-      let u = reel-kind (home_words img n) k.0 in
-      let c = carrier-known (home_words img n) k.0 in (
-        idle-is ∙ rw (u.0, k.0) refl,
-        change-is ∙ ap (λ (m : ℕ). reel_change m (reel_of (home_words img n)).seconds) (u.1 ∙ k.1)
-            ∙ change-by b (reel_of (home_words img n)).seconds (omega (arith, c.0, k.1)) (omega (arith, c.1, k.1)),
-      )
-
-  other-turn : reel_b (home_words img n) ≡ false → idle_at img (n + 3) ≡ true
-  other-turn e = idle-is ∙ go (unused_b (home_words img n))
+  first_three : (c : Change) → change_at img n ≡ Some c → c.line < 3
+  first_three c e =
+      by-test (reel_b (home_words img n))
+      (λ y.
+      let q : change_of ((reel_of (home_words img n)).carrier - 1) 1 1 (reel_of (home_words img n)).seconds ≡ c = some-same (sym (change-reel img n y) ∙ e) in
+      subst (λ (x : Change). x.line < 3) q (omega (arith, carrier-known (home_words img n) y)))
+      (λ f. none-some (sym (change-none img n f) ∙ e))
     where
-      go : (u : Bool) → (u || (not u && not (reel_b (home_words img n)))) ≡ true
-      go true = refl
-      go false = rw e refl
+      some-same : {x y : Change} → ◌≡◌ {A = Option Change} (Some x) (Some y) → x ≡ y
+      some-same e = cc
 
-line-most : (k s : ℕ) → (reel_change k s).line < 3
-line-most zero s = omega arith
-line-most (suc zero) s = omega arith
-line-most (suc (suc zero)) s = omega arith
-line-most (suc (suc (suc zero))) s = omega arith
-line-most (suc (suc (suc (suc k)))) s = omega arith
+      none-some : {x : Change} {P : Type 0} → ◌≡◌ {A = Option Change} None (Some x) → P
+      none-some e = cc
 
-first_three : (img : List ℕ) (i : ℕ) → (change_at img i).line < 3
-first_three img i =
-    by-test (leb 3 i)
-    (λ y. subst (λ (c : Change). c.line < 3) (sym (change-late img i (leb-true 3 i y))) (line-most (kind_at img (i - 3)) (reel_of (home_words img (i - 3))).seconds))
-    (λ f. let l = leb-false 3 i f in subst (λ (c : Change). c.line < 3) (sym (change-early img i l)) l)
+number-told : (k : ℕ) → 1 ≤ k → k ≤ 20 → report_told (no k) ≡ refused k
+number-told zero l h = absurd (omega arith)
+number-told (suc k) l h = ap refused (known k (omega (arith, h))).number
 
 pub report-laws : ReportLaws
 report-laws = record {
@@ -333,11 +287,13 @@ report-laws = record {
   refused-reply = refused-reply;
   filled-reply = filled-reply;
   one-call = one-call;
-  refused-told = λ k. refl;
+  refused-told = λ r. refl;
+  number-told = number-told;
   filled-told = λ a b c d. refl;
   refused-said = refused-said;
   filled-said = filled-said;
-  reel-turn = reel-turn;
-  other-turn = other-turn;
+  one-record = one-record;
+  reel-change = reel-change;
+  other-change = change-none;
   first_three = first_three;
 }

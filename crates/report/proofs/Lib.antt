@@ -1,7 +1,7 @@
 pub mod Counted
 pub mod Checks
 pub mod Sums
-pub mod Turned
+pub mod Changed
 pub mod Table
 pub mod Laws
 pub mod InDigits

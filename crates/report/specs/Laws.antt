@@ -1,13 +1,15 @@
 -- The laws of the report, each in plain words: which records count as what, the sums, the checks, the table, what is answered and told.
-use Rattle.std.specs.Prelude.{ℕ, ◌+◌, ◌-◌, ◌*◌, ◌<◌, ◌≤◌, ◌≡◌, Bool, true, false, List, [], ◌∷◌, length, get_or}
+use Rattle.std.specs.Prelude.{ℕ, ◌+◌, ◌-◌, ◌*◌, ◌<◌, ◌≤◌, ◌≡◌, Bool, true, false, List, [], ◌∷◌, length, get_or, Ok, Err, Some, None}
+use Rattle.layout.specs.Refusal.{Answer, cause, number_of}
+use Rattle.layout.specs.declared.refusal.Refusal.{Refusal}
 use Rattle.reels.specs.Laws.{Shelved, Takes}
 use Rattle.reels.specs.Reel.{unused_b}
-use Rattle.report.specs.Report.{reel_b, on_b, bad_b, count_to, seconds_to, count_of, seconds_of, report_fault, reported, report_reply, report_said}
+use Rattle.report.specs.Report.{reel_b, on_b, bad_b, count_to, seconds_to, count_of, seconds_of, report_fault, table_to, reported, report_reply, report_said}
 use Rattle.report.specs.Told.{refused, report, report_told}
-use Rattle.report.specs.Turns.{change_at, idle_at}
+use Rattle.report.specs.Changes.{change_at, changed}
 use Rattle.report.specs.declared.line.CarrierLine.{CarrierLine}
-use Rattle.report.specs.declared.reply.ReportAnswer.TheVariants.{Refused, Filled}
-use Rattle.report.specs.declared.reply.ReportReply.{ReportReply}
+use Rattle.report.specs.declared.line.Change.{Change}
+use Rattle.report.specs.declared.summing.Totals.{Totals}
 
 -- the words of a reel, as they are good to read; an open reel may have code 0, a speed to find
 abbrev pub Good : ℕ → ℕ → ℕ → ℕ → Type 0
@@ -48,11 +50,11 @@ Clean img = (p : ℕ) → p < 2 * at img 2 → at img (4 + 4 * at img 1 + 22 * p
 abbrev pub line_by : ℕ → ℕ → CarrierLine
 line_by reels seconds = record { reels = reels; seconds = seconds }
 
-abbrev pub filled_by : ℕ → ℕ → ℕ → ℕ → ReportReply
-filled_by reels seconds bad unused = record { answer = Filled; reels = reels; seconds = seconds; bad = bad; unused = unused }
+abbrev pub filled_by : ℕ → ℕ → ℕ → ℕ → Answer Totals
+filled_by reels seconds bad unused = Ok (record { reels = reels; seconds = seconds; bad = bad; unused = unused })
 
-abbrev pub no : ℕ → ReportReply
-no k = record { answer = Refused k; reels = 0; seconds = 0; bad = 0; unused = 0 }
+abbrev pub no : ℕ → Answer Totals
+no k = Err (cause k)
 
 pub record ReportLaws : Type 0 where
   -- which records count as what: reels with their carrier, four zeros as unused, all others as bad
@@ -92,17 +94,19 @@ pub record ReportLaws : Type 0 where
   pub filled-reply : (img : List ℕ) (room : ℕ) → report_fault img room ≡ 0
       → report_reply img room ≡ filled_by (count_of reel_b img) (seconds_of reel_b img) (count_of bad_b img) (count_of unused_b img)
   -- of one call: the three lines' reels, the bad and the unused make N
-  pub one-call : (img : List ℕ) (ls : List CarrierLine) (d : CarrierLine) → report_fault img (length ls) ≡ 0 → let t = reported img ls in let r = report_reply img (length ls) in
+  pub one-call : (img : List ℕ) (ls : List CarrierLine) (d : CarrierLine) (r : Totals) → report_reply img (length ls) ≡ Ok r → let t = reported img ls in
       (get_or t 0 d).reels + (get_or t 1 d).reels + (get_or t 2 d).reels + r.bad + r.unused ≡ at img 1
   -- what a reply tells, and what is told
-  pub refused-told : (k : ℕ) → report_told (no k) ≡ refused k
+  pub refused-told : (r : Refusal) → report_told (Err r) ≡ refused (number_of r)
+  pub number-told : (k : ℕ) → 1 ≤ k → k ≤ 20 → report_told (no k) ≡ refused k
   pub filled-told : (a b c d : ℕ) → report_told (filled_by a b c d) ≡ report a b c d
   pub refused-said : (img : List ℕ) (room : ℕ) → (report_fault img room ≡ 0 → ⊥) → report_said img room ≡ refused (report_fault img room)
   pub filled-said : (img : List ℕ) (room : ℕ) → report_fault img room ≡ 0
       → report_said img room ≡ report (count_of reel_b img) (seconds_of reel_b img) (count_of bad_b img) (count_of unused_b img)
-  -- one line is updated for each reel, that of its carrier, by 1 and its own seconds; turns of other records are passed over; no turn has a
-  -- line past the third
-  pub reel-turn : (img : List ℕ) (n b : ℕ) → on_b b (record_at img n) ≡ true
-      → (idle_at img (n + 3) ≡ false) × (change_at img (n + 3) ≡ record { line = b - 1; keep = 1; reels = 1; seconds = at img (4 + 4 * n + 3) })
-  pub other-turn : (img : List ℕ) (n : ℕ) → reel_b (record_at img n) ≡ false → idle_at img (n + 3) ≡ true
-  pub first_three : (img : List ℕ) (i : ℕ) → (change_at img i).line < 3
+  -- with one more record the table is changed by that record's change; a reel's is one of its carrier's line, by 1 and its own seconds; other
+  -- records make none; no change is to a line past the third
+  pub one-record : (img : List ℕ) (n : ℕ) (ls : List CarrierLine) → table_to img (n + 1) ls ≡ changed (table_to img n ls) (change_at img n)
+  pub reel-change : (img : List ℕ) (n b : ℕ) → on_b b (record_at img n) ≡ true
+      → change_at img n ≡ Some (record { line = b - 1; keep = 1; reels = 1; seconds = at img (4 + 4 * n + 3) })
+  pub other-change : (img : List ℕ) (n : ℕ) → reel_b (record_at img n) ≡ false → change_at img n ≡ None
+  pub first_three : (img : List ℕ) (n : ℕ) (c : Change) → change_at img n ≡ Some c → c.line < 3

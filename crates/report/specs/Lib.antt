@@ -1,6 +1,6 @@
 pub mod Lines
 pub mod Report
 pub mod Told
-pub mod Turns
+pub mod Changes
 pub mod Laws
 pub mod InDigits

@@ -1,5 +1,5 @@
--- The table of carrier lines, and one change of one line.
-use Rattle.std.specs.Prelude.{ℕ, ◌+◌, ◌*◌, ◌<◌, ◌^◌, List, length, set, get_or}
+-- The table of carrier lines, one change of one line, and lines that begin afresh.
+use Rattle.std.specs.Prelude.{ℕ, ◌+◌, ◌*◌, ◌<◌, ◌^◌, List, ◌++◌, length, drop, replicate, set, get_or}
 use Rattle.report.specs.declared.line.CarrierLine.{CarrierLine}
 use Rattle.report.specs.declared.line.Change.{Change}
 
@@ -20,3 +20,7 @@ updated ls c = set ls c.line (more (get_or ls c.line (line_of 0 0)) c)
 abbrev pub CanUpdate : List CarrierLine → Change → Type 0
 CanUpdate ls c =
     (c.line < length ls) × ((more (get_or ls c.line (line_of 0 0)) c).reels < 2 ^ 64) × ((more (get_or ls c.line (line_of 0 0)) c).seconds < 2 ^ 64)
+
+-- the table with its first n lines begun afresh
+abbrev pub begun : ℕ → List CarrierLine → List CarrierLine
+begun n ls = replicate n (line_of 0 0) ++ drop n ls

@@ -1,15 +1,15 @@
 -- The yearly playing-time report (document 02, Req 10): for carriers 1 to 3 the number of reels and their seconds, summed over the records of
 -- a clean image; unused records are skipped, bad ones are counted. Checks 1, 11 and 20, in this order; refused, the table stays.
-use Rattle.std.specs.Prelude.{ℕ, zero, suc, ◌+◌, ◌*◌, Bool, ◌&&◌, not, cond, List, ◌∷◌, length, drop, leb, eqb}
+use Rattle.std.specs.Prelude.{ℕ, zero, suc, ◌+◌, ◌*◌, Bool, ◌&&◌, not, cond, List, ◌∷◌, length, drop, leb, eqb, Ok, Err}
 use Rattle.layout.specs.Below.{count_below}
 use Rattle.layout.specs.Checks.{unless, first, answered}
 use Rattle.layout.specs.Image.{records_of, sessions_of, shaped_b, occupied_b, home_words}
+use Rattle.layout.specs.Refusal.{Answer, cause}
 use Rattle.reels.specs.Reel.{reel_of, unused_b, good_b}
 use Rattle.report.specs.Lines.{line_of}
 use Rattle.report.specs.Told.{ReportTold, refused, report}
 use Rattle.report.specs.declared.line.CarrierLine.{CarrierLine}
-use Rattle.report.specs.declared.reply.ReportAnswer.TheVariants.{Refused, Filled}
-use Rattle.report.specs.declared.reply.ReportReply.{ReportReply}
+use Rattle.report.specs.declared.summing.Totals.{Totals}
 
 -- the words of a record are a reel's: they are good to read; so they are where its speed is to find
 abbrev pub reel_b : List ℕ → Bool
@@ -63,21 +63,20 @@ table_to img n ls = line_to img n 1 ∷ line_to img n 2 ∷ line_to img n 3 ∷ 
 unfoldable pub reported : List ℕ → List CarrierLine → List CarrierLine
 reported img ls = answered (report_fault img (length ls)) (λ k. ls) (table_to img (records_of img) ls)
 
-abbrev pub refused_by : ℕ → ReportReply
-refused_by k = record { answer = Refused k; reels = 0; seconds = 0; bad = 0; unused = 0 }
+abbrev pub refused_by : ℕ → Answer Totals
+refused_by k = Err (cause k)
 
 -- the totals: all reels and their seconds, the bad records, the unused ones
-abbrev pub filled : List ℕ → ReportReply
+abbrev pub filled : List ℕ → Totals
 filled img = record {
-  answer = Filled;
   reels = count_of reel_b img;
   seconds = seconds_of reel_b img;
   bad = count_of bad_b img;
   unused = count_of unused_b img;
 }
 
-unfoldable pub report_reply : List ℕ → ℕ → ReportReply
-report_reply img room = answered (report_fault img room) refused_by (filled img)
+unfoldable pub report_reply : List ℕ → ℕ → Answer Totals
+report_reply img room = answered (report_fault img room) refused_by (Ok (filled img))
 
 -- what it tells
 unfoldable pub report_said : List ℕ → ℕ → ReportTold

@@ -1,20 +1,23 @@
 // What a record counts as in the report, by what its words unpack to.
 ghost use Rattle.std.specs.Prelude.{◌≡◌};
-ghost use Rattle.report.specs.Turns.{kind_of};
+ghost use Rattle.report.specs.Changes.{counted_as};
 
-use reels::ReelAnswer;
+use reels::{Contents, Reel};
 
-// 0 unused, 1 to 3 a reel on that carrier, 4 bad.
-pub fn kind(words: [u64; 4]) -> u64
-    ensures { result ≡ kind_of words }
+#[derive(Clone, Copy, PartialEq, Eq, Debug)]
+pub enum RecordKind {
+    Unused,
+    Reel(Reel),
+    Bad,
+}
+
+#[tactic(auto, unfolding(crate::specs::Changes::counted_as, reels::specs::Unpack::unpack_reply))]
+pub fn kind(words: [u64; 4]) -> RecordKind
+    ensures { result ≡ counted_as words }
 {
-    let u = reels::unpack(words);
-    let a = u.answer;
-    let reel = u.reel;
-    match a {
-        ReelAnswer::Refused(_) => 4,
-        ReelAnswer::Unused => 0,
-        ReelAnswer::Found => reel.carrier,
-        ReelAnswer::SpeedToFind => reel.carrier,
+    match reels::unpack(words) {
+        Err(_) => RecordKind::Bad,
+        Ok(Contents::Unused) => RecordKind::Unused,
+        Ok(Contents::Found(reel) | Contents::SpeedToFind(reel)) => RecordKind::Reel(reel),
     }
 }

@@ -4,12 +4,11 @@
 
 mod checking;
 mod counting;
+mod filling;
 mod line;
-mod reply;
 mod reporting;
-mod totals;
-mod turning;
+mod summing;
 
 pub use line::CarrierLine;
-pub use reply::{ReportAnswer, ReportReply};
 pub use reporting::{FilledTable, fill_table, report};
+pub use summing::Totals;

@@ -1,40 +1,35 @@
 // A case: how many lines are lent, the number of bytes, the bytes of an image. The functions that have a `requires` are for use inside this
 // crate.
-ghost use Rattle.std.specs.Prelude.{◌+◌, ◌≤◌, ◌<◌, length};
+ghost use Rattle.std.specs.Prelude.{◌+◌, ◌≤◌, ◌<◌, length, IfSome};
 
 use crate::filling::{Table, fill};
-use report::{CarrierLine, ReportAnswer, ReportReply};
+use layout::Refusal;
+use report::{CarrierLine, Totals};
+use std::array;
 use std::io::Stdout;
 
-fn wide(byte: u8) -> usize
-    ensures { result < 256 }
-{
-    byte as usize
-}
-
-// How many bytes the case at a place takes; 0 where there is no whole one, or one that is too long.
-pub fn case_size(input: &[u8; 65536], at: usize, have: usize) -> usize
+// How many bytes the case at a place takes; none where there is no whole one, or one that is too long.
+pub fn case_size(input: &[u8; 65536], at: usize, have: usize) -> Option<usize>
     requires { (at ≤ have) × (have ≤ 65536) }
-    ensures { (at + result ≤ have) × (result ≤ 14412) }
+    ensures { IfSome result (λ size. (5 ≤ size) × (at + size ≤ have) × (size ≤ 14412)) }
 {
     if have - at < 5 {
-        return 0;
+        return None;
     }
-    let low = wide(input[at + 1]) + 256 * wide(input[at + 2]);
-    let high = wide(input[at + 3]) + 256 * wide(input[at + 4]);
-    let size = 5 + low + 65536 * high;
-    if have - at < size {
-        return 0;
+    let number = [input[at + 1], input[at + 2], input[at + 3], input[at + 4]];
+    let size = 5 + u32::from_le_bytes(number) as usize;
+    if size <= have - at && size <= 14412 {
+        Some(size)
+    } else {
+        None
     }
-    if 14_412 < size { 0 } else { size }
 }
 
 // How many lines are lent: five at most.
 fn room_of(byte: u8) -> usize
     ensures { result ≤ 5 }
 {
-    let room = wide(byte);
-    if room < 5 { room } else { 5 }
+    usize::from(byte).min(5)
 }
 
 // A line before the call.
@@ -47,28 +42,32 @@ fn marked(i: u64) -> CarrierLine
     }
 }
 
-fn number_of(a: ReportAnswer) -> u64 {
-    match a {
-        ReportAnswer::Refused(k) => k,
-        ReportAnswer::Filled => 0,
+// The number of the refusal and no totals, or 0 and the totals.
+fn answer_fields(answer: Result<Totals, Refusal>) -> [u64; 5] {
+    match answer {
+        Ok(
+            Totals {
+                reels,
+                seconds,
+                bad,
+                unused,
+            },
+        ) => [0, reels, seconds, bad, unused],
+        Err(refusal) => [refusal.number(), 0, 0, 0, 0],
     }
 }
 
 // The fields of a case behind its number.
-fn fields(room: usize, reply: ReportReply, ls: [CarrierLine; 5]) -> [u64; 16] {
-    let a = reply.answer;
-    let l0 = ls[0];
-    let l1 = ls[1];
-    let l2 = ls[2];
-    let l3 = ls[3];
-    let l4 = ls[4];
+fn fields(room: usize, table: Table) -> [u64; 16] {
+    let [number, reels, seconds, bad, unused] = answer_fields(table.totals);
+    let [l0, l1, l2, l3, l4] = table.lines;
     [
         room as u64,
-        number_of(a),
-        reply.reels,
-        reply.seconds,
-        reply.bad,
-        reply.unused,
+        number,
+        reels,
+        seconds,
+        bad,
+        unused,
         l0.reels,
         l0.seconds,
         l1.reels,
@@ -86,11 +85,10 @@ fn fields(room: usize, reply: ReportReply, ls: [CarrierLine; 5]) -> [u64; 16] {
 fn filled(bytes: &[u8], room: usize) -> Table
     requires { (room ≤ 5) × (length bytes.now ≤ 14407) }
 {
-    let mut words: [u64; 1800] = [0; 1800];
+    let mut words = [0; 1800];
     let k = bytes.len() / 8;
     sheet::put_words(bytes, &mut words, k);
-    let given = [marked(0), marked(1), marked(2), marked(3), marked(4)];
-    fill(&words[..k], given, room)
+    fill(&words[..k], array::from_fn(|i| marked(i as u64)), room)
 }
 
 // Writes a case's number and fields, parted by one space. The buffer is all line ends at first, so that one stands behind the last field.
@@ -114,11 +112,6 @@ pub fn show(stdout: Stdout, number: u64, given: &[u8]) -> bool
     requires { (5 ≤ length given.now) × (length given.now ≤ 14412) }
 {
     let room = room_of(given[0]);
-    let t = filled(&given[5..], room);
-    let reply = t.reply;
-    let ls = t.lines;
-    if !write_line(stdout, number, fields(room, reply, ls)) {
-        return false;
-    }
-    write_sheet(stdout, &given[5..])
+    let table = filled(&given[5..], room);
+    write_line(stdout, number, fields(room, table)) && write_sheet(stdout, &given[5..])
 }

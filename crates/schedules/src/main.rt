@@ -2,61 +2,25 @@
 // bytes, as four bytes, lowest first.
 #![tactic(auto)]
 
-ghost use Rattle.std.specs.Prelude.{◌≡◌, ◌<◌, ◌≤◌, length};
+ghost use Rattle.std.specs.Prelude.{◌≤◌, length, IfSome};
 
 use std::io::Stdin;
 use store::Desk;
 
-// The next stream, of `size` bytes; with none left, `ended`.
-#[derive(Clone, Copy)]
-struct Stream {
-    ended: bool,
-    size: usize,
-}
-
-fn wide(byte: u8) -> usize
-    ensures { result < 256 }
+// Reads the next stream to the start of the buffer; the answer is how many bytes it has. One that is longer than the buffer, or cut short,
+// is the end.
+fn next_stream(stdin: Stdin, input: &mut [u8]) -> Option<usize>
+    ensures { IfSome result (λ size. size ≤ length input.old) }
 {
-    byte as usize
-}
-
-// The number that four bytes are, lowest first.
-fn number(bytes: [u8; 4]) -> usize {
-    let a = wide(bytes[0]);
-    let b = wide(bytes[1]);
-    let c = wide(bytes[2]);
-    let d = wide(bytes[3]);
-    a + 256 * (b + 256 * (c + 256 * d))
-}
-
-fn no_stream() -> Stream
-    ensures { result.size ≡ 0 }
-{
-    Stream {
-        ended: true,
-        size: 0,
-    }
-}
-
-// Reads the next stream to the start of the buffer. One that is longer than the buffer, or cut short, is the end.
-fn next_stream(stdin: Stdin, input: &mut [u8]) -> Stream
-    ensures { result.size ≤ length input.old }
-{
-    let mut head: [u8; 4] = [0; 4];
+    let mut head = [0; 4];
     if feed::read_full(stdin, &mut head) < 4 {
-        return no_stream();
+        return None;
     }
-    let size = number(head);
-    if input.len() < size {
-        return no_stream();
+    let size = u32::from_le_bytes(head) as usize;
+    if input.len() < size || feed::read_full(stdin, &mut input[..size]) < size {
+        return None;
     }
-    if feed::read_full(stdin, &mut input[..size]) < size {
-        return no_stream();
-    }
-    Stream {
-        ended: false,
-        size: size,
-    }
+    Some(size)
 }
 
 fn walk_all(
@@ -71,24 +35,11 @@ fn walk_all(
     requires { (256 ≤ length output.old) × (length image.old ≤ length before.old) × (48 ≤ length trace.old)
         × (35 ≤ length input.old) × (1732 ≤ length image.old) }
 {
-    let mut left: u64 = 18446744073709551615;
-    while 0 < left {
-        let stream = next_stream(rt.stdin(), input);
-        if stream.ended {
+    for _turn in 0..u64::MAX {
+        let Some(size) = next_stream(rt.stdin(), input) else {
             return;
-        }
-        walk::run(
-            rt,
-            input,
-            image,
-            before,
-            trace,
-            output,
-            first,
-            stream.size,
-            true,
-        );
-        left -= 1;
+        };
+        walk::run(rt, input, image, before, trace, output, first, size, true);
     }
 }
 

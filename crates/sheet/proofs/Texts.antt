@@ -8,32 +8,35 @@ use lib.ListN.{length, replicate, take}
 use lib.Seq.{take_all, length-take-le}
 use lib.Dec.{leb, eqb}
 use borrow.Author.Tests.{eqb-true, eq-eqb, ne_eqb, leb-true, leb-false}
+use Rattle.std.specs.Prelude.{Ok, Err}
 use Rattle.layout.specs.Checks.{first, answered}
 use Rattle.layout.specs.Image.{shaped_b}
+use Rattle.layout.specs.Refusal.{cause, number_of}
+use Rattle.layout.specs.declared.refusal.Refusal.{Refusal}
 use Rattle.layout.proofs.Says.{by-test}
 use Rattle.layout.proofs.Shape.{says-shaped}
 use Rattle.report.specs.Lines.{line_of}
-use Rattle.report.specs.Report.{reel_b, on_b, bad_b, count_of, seconds_of, report_fault, reported, report_reply}
+use Rattle.report.specs.Report.{reel_b, on_b, bad_b, count_of, seconds_of, report_fault, reported, filled, report_reply}
+use Rattle.report.proofs.Checks.{fault-number}
 use Rattle.report.proofs.Laws.{report-laws}
 use Rattle.report.specs.declared.line.CarrierLine.{CarrierLine}
-use Rattle.report.specs.declared.reply.ReportAnswer.TheVariants.{Refused, Filled}
-use Rattle.report.specs.declared.reply.ReportReply.{ReportReply}
+use Rattle.report.specs.declared.summing.Totals.{Totals}
 use Rattle.sheet.specs.Bytes.{words_in, word_count}
 use Rattle.sheet.specs.Sheet.{row_of, no_row, filled_text, report_text, printed}
 use Rattle.sheet.proofs.Words.{words-length}
 
-pub text-refused : (img : List ℕ) (r : ReportReply) (k : ℕ) → r ≡ report_reply img 3 → r.answer ≡ Refused k → no_row k ≡ report_text img
+pub text-refused : (img : List ℕ) (r : Refusal) → Err r ≡ report_reply img 3 → no_row (number_of r) ≡ report_text img
 unfolding report_text
-text-refused img r k e a = rw (ap (λ (z : ReportReply). z.answer) (sym e) ∙ a) refl
+text-refused img r e = rw (← e) refl
 
-pub text-filled : (img : List ℕ) (r : ReportReply) (ls : List CarrierLine) → r ≡ report_reply img 3 → ls ≡ reported img (replicate 3 (line_of 0 0))
-    → r.answer ≡ Filled → filled_text r ls ≡ report_text img
+pub text-filled : (img : List ℕ) (t : Totals) (ls : List CarrierLine) → Ok t ≡ report_reply img 3 → ls ≡ reported img (replicate 3 (line_of 0 0))
+    → filled_text t ls ≡ report_text img
 unfolding report_text
-text-filled img r ls e l a = rw (ap (λ (z : ReportReply). z.answer) (sym e) ∙ a, ← e, ← l) refl
+text-filled img t ls e l = rw (← e, ← l) refl
 
 module _ (img : List ℕ) where
   pub text-no : (report_fault img 3 ≡ 0 → ⊥) → report_text img ≡ no_row (report_fault img 3)
-  text-no n = sym (text-refused img (report_reply img 3) (report_fault img 3) refl (ap (λ (r : ReportReply). r.answer) (report-laws.refused-reply img 3 n)))
+  text-no n = sym (text-refused img (cause (report_fault img 3)) (sym (report-laws.refused-reply img 3 n))) ∙ ap no_row (fault-number img 3 n)
 
   pub text-yes : report_fault img 3 ≡ 0
       → report_text img
@@ -42,12 +45,12 @@ module _ (img : List ℕ) where
       ++ row_of (98 ∷ 97 ∷ 100 ∷ []) (count_of bad_b img ∷ []))))
   text-yes z =
       let r = report-laws.filled-reply img 3 z in
-      sym (text-filled img (report_reply img 3) (reported img (replicate 3 (line_of 0 0))) refl refl (ap (λ (r : ReportReply). r.answer) r))
-      ∙ rw (r, report-laws.table-line img (replicate 3 (line_of 0 0)) (line_of 0 0) z 0 (omega arith), report-laws.table-line img (replicate 3 (line_of 0 0)) (line_of 0 0) z 1 (omega arith), report-laws.table-line img (replicate 3 (line_of 0 0)) (line_of 0 0) z 2 (omega arith)) refl
+      sym (text-filled img (filled img) (reported img (replicate 3 (line_of 0 0))) (sym r) refl)
+      ∙ rw (report-laws.table-line img (replicate 3 (line_of 0 0)) (line_of 0 0) z 0 (omega arith), report-laws.table-line img (replicate 3 (line_of 0 0)) (line_of 0 0) z 1 (omega arith), report-laws.table-line img (replicate 3 (line_of 0 0)) (line_of 0 0) z 2 (omega arith)) refl
 
 -- words that are no image: the report is refused with 1
 text-unshaped : (img : List ℕ) → shaped_b img ≡ false → report_text img ≡ no_row 1
-unfolding report_text report_reply report_fault first answered
+unfolding report_text report_reply report_fault first answered cause
 text-unshaped img e = rw e refl
 
 no-words : report_text [] ≡ no_row 1

@@ -6,11 +6,7 @@ ghost use Rattle.sheet.specs.Bytes.{words_in, word_count};
 pub fn word_count(n: usize) -> usize
     ensures { result ≡ word_count n }
 {
-    if (n % 8 == 0) & (n <= 13_856) {
-        n / 8
-    } else {
-        0
-    }
+    if n % 8 == 0 && n <= 13856 { n / 8 } else { 0 }
 }
 
 // The first k words of the bytes, put at the start of the image.
@@ -18,9 +14,7 @@ pub fn put_words(bytes: &[u8], image: &mut [u64], k: usize)
     requires { (8 * k ≤ length bytes.now) × (k ≤ length image.old) }
     ensures { image.new ≡ words_in k bytes.now ++ drop k image.old }
 {
-    let mut i: usize = 0;
-    while i < k {
+    for i in 0..k {
         image[i] = codec::word(bytes, 8 * i);
-        i += 1;
     }
 }

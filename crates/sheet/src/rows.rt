@@ -5,7 +5,7 @@ ghost use Rattle.sheet.specs.Bytes.{laid_over};
 ghost use Rattle.sheet.specs.Sheet.{row_of, filled_text, report_text, printed};
 
 use crate::bytes::{put_words, word_count};
-use report::{CarrierLine, ReportAnswer, ReportReply};
+use report::{CarrierLine, FilledTable, Totals};
 
 // A name and numbers, and the line's end.
 fn put_row(out: &mut [u8], at: usize, name: &[u8], values: &[u64]) -> usize
@@ -20,19 +20,17 @@ fn put_row(out: &mut [u8], at: usize, name: &[u8], values: &[u64]) -> usize
 }
 
 // The five lines of a report that was not refused.
-fn put_filled(out: &mut [u8], reply: ReportReply, ls: [CarrierLine; 3]) -> usize
+fn put_filled(out: &mut [u8], totals: Totals, lines: [CarrierLine; 3]) -> usize
     requires { 320 ≤ length out.old }
-    ensures put { Put (filled_text reply ls) 0 out.old out.new result }
+    ensures put { Put (filled_text totals lines) 0 out.old out.new result }
     ensures upper_bound { result ≤ 320 }
 {
-    let one = ls[0];
-    let two = ls[1];
-    let three = ls[2];
+    let [one, two, three] = lines;
     let a = put_row(out, 0, b"1", &[one.reels, one.seconds]);
     let b = put_row(out, a, b"2", &[two.reels, two.seconds]);
     let c = put_row(out, b, b"3", &[three.reels, three.seconds]);
-    let d = put_row(out, c, b"all", &[reply.reels, reply.seconds]);
-    put_row(out, d, b"bad", &[reply.bad])
+    let d = put_row(out, c, b"all", &[totals.reels, totals.seconds]);
+    put_row(out, d, b"bad", &[totals.bad])
 }
 
 // The report of an image, at the start of the buffer; the answer is how many bytes it has.
@@ -41,13 +39,10 @@ fn put_report(out: &mut [u8], image: &[u64]) -> usize
     ensures put { Put (report_text image.now) 0 out.old out.new result }
     ensures upper_bound { result ≤ 320 }
 {
-    let t = report::fill_table(image);
-    let reply = t.reply;
-    let ls = t.lines;
-    let answer = reply.answer;
-    match answer {
-        ReportAnswer::Refused(k) => put_row(out, 0, b"no", &[k]),
-        ReportAnswer::Filled => put_filled(out, reply, ls),
+    let FilledTable { totals, lines } = report::fill_table(image);
+    match totals {
+        Ok(totals) => put_filled(out, totals, lines),
+        Err(refusal) => put_row(out, 0, b"no", &[refusal.number()]),
     }
 }
 

@@ -1,3 +1,4 @@
+pub mod Searches
 pub mod OwnPlace
 pub mod ReadLaws
 pub mod WriteLaws

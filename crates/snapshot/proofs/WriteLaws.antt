@@ -1,26 +1,43 @@
 -- Write, case by case.
 use Prim.Native.Nat.{ℕ, ◌-◌, ◌<◌, ◌≤◌}
 use mathlib.Core.Bool.{Bool, true, false, ◌||◌, cond}
-use mathlib.Core.Path.{◌≡◌, sym, ap, ◌∙◌}
+use mathlib.Core.Path.{◌≡◌, refl, sym, ap, ◌∙◌}
 use mathlib.Core.List.{List}
 use native.Mathlib.Omega.{arith}
 use lib.Dec.{leb, ltb, eqb}
-use borrow.Author.Tests.{lt-ltb, le-ltb, eq-eqb, ne_eqb, ltb-true}
+use borrow.Author.Tests.{lt-ltb, le-ltb, le-leb, ne_eqb, ltb-true}
+use Rattle.std.specs.Prelude.{Ok, Err}
+use Rattle.std.specs.Option.{ok_or}
 use Rattle.layout.specs.Checks.{unless, first, answered}
+use Rattle.layout.specs.Refusal.{answer_of, cause}
+use Rattle.layout.specs.declared.refusal.Refusal.TheVariants.{OtherHolds, FifthRecord, SlotsFull}
+use Rattle.layout.specs.Search.{within}
+use Rattle.layout.proofs.Says.{by-test}
 use Rattle.layout.proofs.ChecksLaws.{first-both, first-most, unless-zero, unless-most, first-assoc, answered-refused, answered-passed, answered-zero, answered-not}
 use Rattle.desk.specs.Desk.{session_at, mark_at, is_active, put_session, dropped}
 use Rattle.desk.specs.declared.state.Desk.{Desk}
-use Rattle.desk.specs.Entering.{image_fault}
+use Rattle.desk.specs.Entering.{image_fault, record_fault}
 use Rattle.desk.proofs.Entered.{entry-most}
 use Rattle.snapshot.specs.Own.{own_place}
-use Rattle.snapshot.specs.Write.{empty_slot, copy_fault, owns_b, write_fault, write_says, write_refused, overwritten, copied, write_done, write_reply}
-use Rattle.snapshot.specs.declared.writing.WriteAnswer.TheVariants.{Refused, Taken, Ok}
-use Rattle.desk.proofs.RecordEntered.{record_fault}
+use Rattle.snapshot.specs.Write.{empty_slot, copy_fault, reserved, owns_b, write_fault, write_says, write_refused, overwritten, copied, write_done, write_reply}
 
--- refused by 7, the record is marked
-pub taken-marked : (mark count free : ℕ) → copy_fault mark count free ≡ 7 → mark ≡ 0 → ⊥
+-- the slot for one copy more of a record that is not held, by the copies that there are
+pub slot-first : (free slot : ℕ) → answer_of (copy_fault 0 0 free) (reserved 0 free slot) ≡ ok_or (within 2 free) SlotsFull
+unfolding copy_fault first answered cause
+slot-first free slot = by-test (ltb free 2) (λ t. rw t refl) (λ f. rw f refl)
+
+pub slot-same : (count free slot : ℕ) → 1 ≤ count → count ≤ 3 → answer_of (copy_fault 0 count free) (reserved count free slot) ≡ Ok slot
+unfolding copy_fault first answered
+slot-same count free slot l m = rw (lt-ltb count 4 (omega arith), le-leb 1 count l, ne_eqb count 0 (λ z. omega (arith, z))) refl
+
+pub slot-none : (count free slot : ℕ) → 4 ≤ count → answer_of (copy_fault 0 count free) (reserved count free slot) ≡ Err FifthRecord
+unfolding copy_fault first answered cause
+slot-none count free slot l = rw (le-ltb count 4 l) refl
+
+-- a record that is not held is not refused by 7
+unheld : (count free : ℕ) → copy_fault 0 count free ≡ 7 → ⊥
 unfolding copy_fault first
-taken-marked mark count free e z = go (ltb count 4) (leb 1 count || ltb free 2) (rw (eq-eqb mark 0 z) at e)
+unheld count free e = go (ltb count 4) (leb 1 count || ltb free 2) e
   where
     go : (a b : Bool) → first (unless a 8) (unless b 9) ≡ 7 → ⊥
     go true true h = omega arith
@@ -42,7 +59,7 @@ module _ (img : List ℕ) (d : Desk) (s r : ℕ) (ws : List ℕ) where
       first-most 5 (image_fault img d true s) (unless (ltb r d.n) 5) (omega (arith, entry-most img d true s)) (unless-most 5 (ltb r d.n) 5 (omega arith))
 
   -- a refusal other than 7 leaves all as it was
-  plain : (k : ℕ) → (k ≡ 7 → ⊥) → write_refused d s r k ≡ write_says d (Refused k)
+  plain : (k : ℕ) → (k ≡ 7 → ⊥) → write_refused d s r k ≡ write_says d (Err (cause k))
   unfolding write_refused
   plain k n = rw (ne_eqb k 7 n)
 
@@ -55,13 +72,13 @@ module _ (img : List ℕ) (d : Desk) (s r : ℕ) (ws : List ℕ) where
   by-record = rw first-assoc
 
   -- refused by 1, 2, 4 or 5
-  pub write-refused : (k : ℕ) → k ≡ record_fault img d s r → (k ≡ 0 → ⊥) → write_reply img d s r ws ≡ write_says d (Refused k)
+  pub write-refused : (k : ℕ) → k ≡ record_fault img d s r → (k ≡ 0 → ⊥) → write_reply img d s r ws ≡ write_says d (Err (cause k))
   write-refused k e n =
       by-record ∙ answered-refused _ _ (write_refused d s r) _ (λ z. n (e ∙ z)) ∙ ap (write_refused d s r) (sym e) ∙ plain k (λ q. omega (arith, q, e, record-most))
 
   module _ (z : record_fault img d s r ≡ 0) where
     -- refused by 6
-    pub write-inactive : is_active (session_at d s).phase ≡ false → write_reply img d s r ws ≡ write_says d (Refused 6)
+    pub write-inactive : is_active (session_at d s).phase ≡ false → write_reply img d s r ws ≡ write_says d (Err (cause 6))
     unfolding answered first
     write-inactive f = by-record ∙ answered-passed _ _ (write_refused d s r) _ z ∙ rw f (plain 6 (λ q. omega (arith, q)))
 
@@ -70,22 +87,25 @@ module _ (img : List ℕ) (d : Desk) (s r : ℕ) (ws : List ℕ) where
       unfolding first
       active = by-record ∙ answered-passed _ _ (write_refused d s r) _ z ∙ rw a
 
-      pub write-own : own_place (session_at d s) r < 4 → write_reply img d s r ws ≡ write_says (put_session d s (overwritten (session_at d s) r ws)) Ok
+      pub write-own : own_place (session_at d s) r < 4 → write_reply img d s r ws ≡ write_says (put_session d s (overwritten (session_at d s) r ws)) (Ok tt)
       unfolding answered
       write-own l = active ∙ rw (lt-ltb _ _ l)
 
-      module _ (n : 4 ≤ own_place (session_at d s) r) (k : ℕ) (e : k ≡ copy_fault (mark_at d r) (session_at d s).count (empty_slot img d.n s)) where
-        other : write_reply img d s r ws ≡ answered k (write_refused d s r) (write_says (copied img d s r ws) Ok)
-        other = active ∙ rw (le-ltb _ _ n, e)
+      module _ (n : 4 ≤ own_place (session_at d s) r) where
+        other : write_reply img d s r ws
+            ≡ answered (copy_fault (mark_at d r) (session_at d s).count (empty_slot img d.n s)) (write_refused d s r) (write_says (copied img d s r ws) (Ok tt))
+        other = active ∙ rw (le-ltb _ _ n)
 
         -- refused by 7
-        pub write-taken : k ≡ 7 → write_reply img d s r ws ≡ write_says (dropped d s) (Taken (mark_at d r - 1))
-        unfolding answered write_refused
-        write-taken q = other ∙ rw q
+        pub write-taken : (mark_at d r ≡ 0 → ⊥) → write_reply img d s r ws ≡ write_says (dropped d s) (Err (OtherHolds (mark_at d r - 1)))
+        unfolding answered write_refused copy_fault first
+        write-taken m = other ∙ rw (ne_eqb _ 0 m)
 
-        -- refused by 8 or 9
-        pub write-full : (k ≡ 7 → ⊥) → (k ≡ 0 → ⊥) → write_reply img d s r ws ≡ write_says d (Refused k)
-        write-full x y = other ∙ answered-not k (write_refused d s r) _ y ∙ plain k x
+        module _ (m : mark_at d r ≡ 0) where
+          -- refused by 8 or 9
+          pub write-full : (copy_fault 0 (session_at d s).count (empty_slot img d.n s) ≡ 0 → ⊥)
+              → write_reply img d s r ws ≡ write_says d (Err (cause (copy_fault 0 (session_at d s).count (empty_slot img d.n s))))
+          write-full y = other ∙ rw (m, answered-not _ (write_refused d s r) (write_says (copied img d s r ws) (Ok tt)) y) (plain _ (unheld _ _))
 
-        pub write-copied : k ≡ 0 → write_reply img d s r ws ≡ write_says (copied img d s r ws) Ok
-        write-copied y = other ∙ answered-zero k (write_refused d s r) _ y
+          pub write-copied : copy_fault 0 (session_at d s).count (empty_slot img d.n s) ≡ 0 → write_reply img d s r ws ≡ write_says (copied img d s r ws) (Ok tt)
+          write-copied y = other ∙ rw (m, answered-zero _ (write_refused d s r) (write_says (copied img d s r ws) (Ok tt)) y)

@@ -1,4 +1,4 @@
--- A session's own copies, and the words of an answer that has none.
+-- A session's own copies, and four zero words.
 use Rattle.std.specs.Prelude.{ℕ, List, replicate}
 use Rattle.layout.specs.Below.{lowest}
 use Rattle.desk.specs.Coherent.{place_has}

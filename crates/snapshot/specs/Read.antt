@@ -1,18 +1,19 @@
 -- Read (document 01): active only. Own copy if there is one. Otherwise, if the holder is published with end at most this start, the
 -- holder's copy. Otherwise the home record. Checks 1, 2, 4, 5, 6.
-use Rattle.std.specs.Prelude.{ℕ, ◌-◌, Bool, true, false, ◌&&◌, not, cond, List, leb, ltb, eqb}
+use Rattle.std.specs.Prelude.{ℕ, ◌-◌, Bool, true, false, ◌&&◌, not, cond, List, leb, ltb, eqb, Ok, Err}
 use Rattle.layout.specs.Checks.{unless, first, answered}
 use Rattle.layout.specs.Image.{home_words}
+use Rattle.layout.specs.Refusal.{cause}
 use Rattle.desk.specs.Desk.{session_at, mark_at, copy_at, is_active, start_of}
 use Rattle.desk.specs.declared.state.Phase.{Phase}
 use Rattle.desk.specs.declared.state.Phase.TheVariants.{Idle, Active, Sealed, Published}
 use Rattle.desk.specs.declared.state.Session.{Session}
 use Rattle.desk.specs.declared.state.Desk.{Desk}
+use Rattle.desk.specs.declared.reply.Reply.{Reply}
 use Rattle.desk.specs.Entering.{image_fault}
-use Rattle.snapshot.specs.Own.{own_place, zero_words}
-use Rattle.snapshot.specs.declared.reading.ReadAnswer.{ReadAnswer}
-use Rattle.snapshot.specs.declared.reading.ReadAnswer.TheVariants.{Refused, Own, Copy, Home}
-use Rattle.snapshot.specs.declared.reading.ReadReply.{ReadReply}
+use Rattle.snapshot.specs.Own.{own_place}
+use Rattle.snapshot.specs.declared.seeing.Source.{Source}
+use Rattle.snapshot.specs.declared.seeing.Source.TheVariants.{Own, Copy, Home}
 use Rattle.snapshot.specs.declared.seeing.Sight.{Sight}
 use Rattle.layout.specs.Told.{Told, refusal, own, copied, home}
 
@@ -34,9 +35,9 @@ holder_entry d r = session_at d (mark_at d r - 1)
 abbrev pub copy_shown : Desk → ℕ → ℕ → Bool
 copy_shown d start r = not (eqb (mark_at d r) 0) && shown_at start (holder_entry d r).phase
 
--- copy or home, and the words
-abbrev pub sight : ReadAnswer → List ℕ → Sight
-sight a ws = record { answer = a; words = ws }
+-- the words, and whose they are
+abbrev pub sight : Source → List ℕ → Sight
+sight from ws = record { source = from; words = ws }
 
 -- what a reader with this start sees of record r, which it does not copy: by the record's mark and holder, and by the desk
 unfoldable pub sight_of : List ℕ → ℕ → ℕ → ℕ → Session → Sight
@@ -46,20 +47,23 @@ sight_of img start r mark holder =
 abbrev pub sight_at : List ℕ → Desk → ℕ → ℕ → Sight
 sight_at img d start r = sight_of img start r (mark_at d r) (holder_entry d r)
 
-abbrev pub read_gives : Desk → ReadAnswer → List ℕ → ReadReply
-read_gives d a ws = record { answer = a; words = ws; desk = d }
-
-abbrev pub read_refused : Desk → ℕ → ReadReply
-read_refused d k = read_gives d (Refused k) zero_words
-
-abbrev pub read_done : List ℕ → Desk → ℕ → ℕ → ReadReply
-read_done img d s r =
-    let seen = sight_at img d (start_of (session_at d s).phase) r in
+-- what session s sees of it: its own copy if it has one
+abbrev pub session_sight : List ℕ → Desk → ℕ → ℕ → Sight
+session_sight img d s r =
     cond (ltb (own_place (session_at d s) r) 4)
-    (read_gives d Own (copy_at (session_at d s) (own_place (session_at d s) r)).words)
-    (read_gives d seen.answer seen.words)
+    (sight Own (copy_at (session_at d s) (own_place (session_at d s) r)).words)
+    (sight_at img d (start_of (session_at d s).phase) r)
 
-unfoldable pub read_reply : List ℕ → Desk → ℕ → ℕ → ReadReply
+abbrev pub read_gives : Desk → Sight → Reply Sight
+read_gives d x = record { answer = Ok x; desk = d }
+
+abbrev pub read_refused : Desk → ℕ → Reply Sight
+read_refused d k = record { answer = Err (cause k); desk = d }
+
+abbrev pub read_done : List ℕ → Desk → ℕ → ℕ → Reply Sight
+read_done img d s r = read_gives d (session_sight img d s r)
+
+unfoldable pub read_reply : List ℕ → Desk → ℕ → ℕ → Reply Sight
 read_reply img d s r = answered (read_fault img d s r) (read_refused d) (read_done img d s r)
 
 -- what it tells: the words, and whose they are

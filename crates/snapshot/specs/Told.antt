@@ -1,20 +1,23 @@
 -- What each answer of read and write tells.
-use Rattle.std.specs.Prelude.{ℕ, List}
-use Rattle.layout.specs.Told.{Told, refused, refusal, ok, own, copied, home}
-use Rattle.snapshot.specs.declared.reading.ReadAnswer.{ReadAnswer}
-use Rattle.snapshot.specs.declared.reading.ReadAnswer.TheVariants.{Refused as ReadRefused, Own, Copy, Home}
-use Rattle.snapshot.specs.declared.writing.WriteAnswer.{WriteAnswer}
-use Rattle.snapshot.specs.declared.writing.WriteAnswer.TheVariants.{Refused as WriteRefused, Taken, Ok as Written}
+use Rattle.std.specs.Prelude.{ℕ, ⊤, List}
+use Rattle.layout.specs.Refusal.{Answer}
+use Rattle.layout.specs.Told.{Told, tells, ok, own, copied, home}
+use Rattle.snapshot.specs.declared.seeing.Source.{Source}
+use Rattle.snapshot.specs.declared.seeing.Source.TheVariants.{Own, Copy, Home}
+use Rattle.snapshot.specs.declared.seeing.Sight.{Sight}
 
--- the four words stand beside the answer
-abbrev pub read_told : ReadAnswer → List ℕ → Told
-read_told (ReadRefused k) ws = refusal k
-read_told Own ws = own ws
-read_told Copy ws = copied ws
-read_told Home ws = home ws
+-- whose words they are, with the words
+abbrev pub words_from : Source → List ℕ → Told
+words_from Own ws = own ws
+words_from Copy ws = copied ws
+words_from Home ws = home ws
+
+abbrev pub sight_told : Sight → Told
+sight_told x = words_from x.source x.words
+
+abbrev pub read_told : Answer Sight → Told
+read_told = tells sight_told
 
 -- 7 with the holder
-abbrev pub write_told : WriteAnswer → Told
-write_told (WriteRefused k) = refusal k
-write_told (Taken t) = refused 7 t
-write_told Written = ok
+abbrev pub write_told : Answer ⊤ → Told
+write_told = tells (λ x. ok)

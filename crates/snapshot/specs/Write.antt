@@ -1,18 +1,18 @@
 -- Write of four words (document 01): active only. An own copy is overwritten. Otherwise the record is marked and copied. At the first copy
 -- the lowest empty slot of the session is reserved. Checks 1, 2, 4, 5, 6, 7, 8, 9; 7 leaves the caller idle, its marks and copies
 -- dropped, out of the list.
-use Rattle.std.specs.Prelude.{ℕ, ◌+◌, ◌-◌, Bool, true, ◌||◌, cond, List, set, leb, ltb, eqb}
+use Rattle.std.specs.Prelude.{ℕ, ◌+◌, ◌-◌, Bool, true, ◌||◌, cond, List, set, leb, ltb, eqb, ⊤, Ok, Err}
 use Rattle.layout.specs.Below.{lowest}
 use Rattle.layout.specs.Checks.{unless, first, answered}
 use Rattle.layout.specs.Image.{place_of, persist_at}
+use Rattle.layout.specs.Refusal.{Answer, cause}
+use Rattle.layout.specs.declared.refusal.Refusal.TheVariants.{OtherHolds}
 use Rattle.desk.specs.Desk.{session_at, mark_at, is_active, changed, put_session, dropped}
 use Rattle.desk.specs.declared.state.Session.{Session}
 use Rattle.desk.specs.declared.state.Desk.{Desk}
+use Rattle.desk.specs.declared.reply.Reply.{Reply}
 use Rattle.desk.specs.Entering.{image_fault}
 use Rattle.snapshot.specs.Own.{own_place}
-use Rattle.snapshot.specs.declared.writing.WriteAnswer.{WriteAnswer}
-use Rattle.snapshot.specs.declared.writing.WriteAnswer.TheVariants.{Refused, Taken, Ok}
-use Rattle.snapshot.specs.declared.writing.WriteReply.{WriteReply}
 use Rattle.layout.specs.Told.{Told, refused, refusal, ok}
 
 -- the session's slot q is empty; and the lowest of its two that is, 2 where both are occupied
@@ -37,12 +37,12 @@ write_fault img d s r =
     (first (unless (is_active (session_at d s).phase) 6)
     (cond (owns_b d s r) 0 (copy_fault (mark_at d r) (session_at d s).count (empty_slot img d.n s)))))
 
-abbrev pub write_says : Desk → WriteAnswer → WriteReply
+abbrev pub write_says : Desk → Answer ⊤ → Reply ⊤
 write_says d a = record { answer = a; desk = d }
 
 -- refusal 7 names the holder, and leaves the caller idle, its marks and copies dropped, out of the list
-unfoldable pub write_refused : Desk → ℕ → ℕ → ℕ → WriteReply
-write_refused d s r k = cond (eqb k 7) (write_says (dropped d s) (Taken (mark_at d r - 1))) (write_says d (Refused k))
+unfoldable pub write_refused : Desk → ℕ → ℕ → ℕ → Reply ⊤
+write_refused d s r k = cond (eqb k 7) (write_says (dropped d s) (Err (OtherHolds (mark_at d r - 1)))) (write_says d (Err (cause k)))
 
 -- the session with its own copy overwritten, in its place
 abbrev pub overwritten : Session → ℕ → List ℕ → Session
@@ -63,10 +63,10 @@ copied img d s r ws =
     changed d s (extended (session_at d s) r ws (reserved (session_at d s).count (empty_slot img d.n s) (session_at d s).slot))
     d.clock (set d.holders r (s + 1)) d.order
 
-abbrev pub write_done : List ℕ → Desk → ℕ → ℕ → List ℕ → WriteReply
-write_done img d s r ws = write_says (cond (owns_b d s r) (put_session d s (overwritten (session_at d s) r ws)) (copied img d s r ws)) Ok
+abbrev pub write_done : List ℕ → Desk → ℕ → ℕ → List ℕ → Reply ⊤
+write_done img d s r ws = write_says (cond (owns_b d s r) (put_session d s (overwritten (session_at d s) r ws)) (copied img d s r ws)) (Ok tt)
 
-unfoldable pub write_reply : List ℕ → Desk → ℕ → ℕ → List ℕ → WriteReply
+unfoldable pub write_reply : List ℕ → Desk → ℕ → ℕ → List ℕ → Reply ⊤
 write_reply img d s r ws = answered (write_fault img d s r) (write_refused d s r) (write_done img d s r ws)
 
 -- what it tells: 7 with the holder

@@ -1,21 +1,16 @@
 // A session's copies.
 ghost use Rattle.std.specs.Prelude.{◌≡◌};
+ghost use Rattle.layout.specs.Search.{within};
 ghost use Rattle.snapshot.specs.Own.{own_place};
 
 use desk::Session;
 
-// The place of the session's own copy of a record; 4 where it has none.
-pub fn own_place(e: Session, rec: u64) -> usize
-    ensures { result ≡ own_place e rec }
+// The place of the session's own copy of a record, if it has one.
+pub fn own_place(e: Session, rec: u64) -> Option<usize>
+    ensures { result ≡ within 4 (own_place e rec) }
 {
-    let count = e.count;
-    let mut j: usize = 0;
-    while j < 4 {
-        let c = e.copies[j];
-        if ((j as u64) < count) & (c.rec == rec) {
-            return j;
-        }
-        j += 1;
-    }
-    4
+    e.copies
+        .iter()
+        .take(e.count as usize)
+        .position(|c| c.rec == rec)
 }

@@ -1,5 +1,5 @@
-// Read and write: what a session sees of a record, and its own copies. Neither stores to the image. The module `seeing` is public for the
-// crate above.
+// Read and write: what a session sees of a record, and its own copies. Neither stores to the image. What `seeing`
+// has is public for the crates above.
 #![tactic(auto)]
 
 mod copies;
@@ -7,6 +7,6 @@ mod reading;
 mod seeing;
 mod writing;
 
-pub use reading::{ReadAnswer, ReadReply, read};
-pub use seeing::{Sight, marked_session, seen};
-pub use writing::{WriteAnswer, WriteReply, write};
+pub use reading::read;
+pub use seeing::{Sight, Source, marked_session, seen};
+pub use writing::write;

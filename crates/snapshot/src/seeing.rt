@@ -5,13 +5,20 @@ ghost use Rattle.snapshot.specs.Own.{own_place};
 ghost use Rattle.snapshot.specs.Read.{shown_at, sight_of};
 
 use crate::copies::own_place;
-use crate::reading::ReadAnswer;
 use desk::{Phase, Session};
 
-// Copy or home, and the words.
+// Whose words a reader sees: its own copy's, a published copy's, or the home record's.
+#[derive(Clone, Copy, PartialEq, Eq)]
+pub enum Source {
+    Own,
+    Copy,
+    Home,
+}
+
+// The words of a record, and whose they are.
 #[derive(Clone, Copy)]
 pub struct Sight {
-    pub answer: ReadAnswer,
+    pub source: Source,
     pub words: [u64; 4],
 }
 
@@ -19,19 +26,14 @@ pub struct Sight {
 fn shown_at(start: u64, p: Phase) -> bool
     ensures { result ≡ shown_at start p }
 {
-    match p {
-        Phase::Idle => false,
-        Phase::Active(_) => false,
-        Phase::Sealed(_) => false,
-        Phase::Published(end) => end <= start,
-    }
+    matches!(p, Phase::Published(end) if end <= start)
 }
 
 // The session that a holder mark names; 0 for no mark.
 pub fn marked_session(mark: u8) -> usize
     ensures { result ≡ mark - 1 }
 {
-    if mark == 0 { 0 } else { mark as usize - 1 }
+    usize::from(mark).saturating_sub(1)
 }
 
 // What a reader with this start sees of a record with this mark and holder.
@@ -39,19 +41,16 @@ pub fn seen(image: &[u64], start: u64, rec: u64, mark: u8, holder: Session) -> S
     requires { (rec < 256) × ((mark ≡ 0 → ⊥) → own_place holder rec < 4) }
     ensures { result ≡ sight_of image.now start rec mark holder }
 {
-    let p = holder.phase;
-    if (mark != 0) & shown_at(start, p) {
-        let place = own_place(holder, rec);
-        let copy = holder.copies[place];
-        let words = copy.words;
-        return Sight {
-            answer: ReadAnswer::Copy,
-            words: words,
-        };
+    if mark != 0 && shown_at(start, holder.phase) {
+        if let Some(place) = own_place(holder, rec) {
+            return Sight {
+                source: Source::Copy,
+                words: holder.copies[place].words,
+            };
+        }
     }
-    let words = layout::home_words(image, rec);
     Sight {
-        answer: ReadAnswer::Home,
-        words: words,
+        source: Source::Home,
+        words: layout::home_words(image, rec),
     }
 }

@@ -1,59 +1,35 @@
 // Write: a copy of a record; where another session holds the record (refusal 7), which one.
 ghost use Rattle.std.specs.Prelude.{◌≡◌, ◌≤◌, ◌<◌};
-ghost use Rattle.snapshot.specs.Write.{empty_slot, copy_fault, reserved, overwritten, extended, write_says, write_reply, write_said};
+ghost use Rattle.layout.specs.Refusal.{answer_of};
+ghost use Rattle.layout.specs.Search.{within};
+ghost use Rattle.snapshot.specs.Write.{empty_slot, copy_fault, reserved, overwritten, extended, write_reply, write_said};
 ghost use Rattle.snapshot.specs.Told.{write_told};
 ghost use Rattle.snapshot.specs.Own.{own_place};
 
 use crate::copies::own_place;
-use desk::{
-    Desk, INCOHERENT, RecordCopy, Session, census, idle_session, is_active, leave, record_fault,
-    unmark,
-};
+use desk::{Desk, RecordCopy, Reply, Session, leave, unmark};
+use layout::Refusal;
 
-#[derive(Clone, Copy)]
-pub enum WriteAnswer {
-    Refused(u64),
-    Taken(u64),
-    Ok,
-}
-
-#[derive(Clone, Copy)]
-pub struct WriteReply {
-    pub answer: WriteAnswer,
-    pub desk: Desk,
-}
-
-// The lowest empty slot of the session; 2 where both are occupied.
-fn empty_slot(image: &[u64], n: u64, session: u64) -> u64
+// The lowest empty slot of the session, if it has one.
+fn empty_slot(image: &[u64], n: u64, session: u64) -> Option<u64>
     requires { (n ≤ 256) × (session < 16) }
-    ensures { result ≡ empty_slot image.now n session }
+    ensures { result ≡ within 2 (empty_slot image.now n session) }
 {
-    if layout::slot_word(image, n, 2 * session, 0) == 0 {
-        return 0;
-    }
-    if layout::slot_word(image, n, 2 * session + 1, 0) == 0 {
-        1
-    } else {
-        2
-    }
+    (0..2).find(|q| layout::slot_word(image, n, 2 * session + *q, 0) == 0)
 }
 
-fn copy_fault(mark: u8, count: u64, free: u64) -> u64
-    ensures { result ≡ copy_fault mark count free }
+// The slot for one copy more, at the first the lowest empty one, then the same; or refusal 8 or 9.
+fn slot_for(image: &[u64], n: u64, session: u64, e: Session) -> Result<u64, Refusal>
+    requires { (n ≤ 256) × (session < 16) }
+    ensures { result
+        ≡ answer_of (copy_fault 0 e.count (empty_slot image.now n session))
+        (reserved e.count (empty_slot image.now n session) e.slot) }
 {
-    if mark != 0 {
-        return 7;
+    match e.count {
+        0 => empty_slot(image, n, session).ok_or(Refusal::SlotsFull),
+        1..=3 => Ok(e.slot),
+        _ => Err(Refusal::FifthRecord),
     }
-    if 4 <= count {
-        return 8;
-    }
-    if (1 <= count) | (free < 2) { 0 } else { 9 }
-}
-
-fn slot_for(count: u64, free: u64, slot: u64) -> u64
-    ensures { result ≡ reserved count free slot }
-{
-    if count == 0 { free } else { slot }
 }
 
 // The session with its own copy overwritten, in its place.
@@ -61,10 +37,7 @@ fn overwrite(mut e: Session, place: usize, rec: u64, words: [u64; 4]) -> Session
     requires { (place ≡ own_place e rec) × (place < 4) }
     ensures { result ≡ overwritten e rec words }
 {
-    e.copies[place] = RecordCopy {
-        rec: rec,
-        words: words,
-    };
+    e.copies[place] = RecordCopy { rec, words };
     e
 }
 
@@ -73,68 +46,53 @@ fn extend(mut e: Session, rec: u64, words: [u64; 4], slot: u64) -> Session
     requires { e.count < 4 }
     ensures { result ≡ extended e rec words slot }
 {
-    let count = e.count;
-    let place = count as usize;
-    e.copies[place] = RecordCopy {
-        rec: rec,
-        words: words,
-    };
-    e.count = count + 1;
-    e.slot = slot;
-    e
-}
-
-fn gives(desk: Desk, answer: WriteAnswer) -> WriteReply
-    ensures { result ≡ write_says desk answer }
-{
-    WriteReply {
-        answer: answer,
-        desk: desk,
+    e.copies[e.count as usize] = RecordCopy { rec, words };
+    Session {
+        count: e.count + 1,
+        slot,
+        ..e
     }
 }
 
-// Writes four words to the session's copy of a record.
-pub fn write(image: &[u64], mut desk: Desk, session: u64, rec: u64, words: [u64; 4]) -> WriteReply
-    ensures reply { result ≡ write_reply image.now desk session rec words }
-    ensures told { write_told result.answer ≡ write_said image.now desk session rec }
+fn put_copy(
+    image: &[u64],
+    desk: &mut Desk,
+    session: u64,
+    rec: u64,
+    words: [u64; 4],
+) -> Result<(), Refusal>
+    ensures answer { result ≡ (write_reply image.now desk.old session rec words).answer }
+    ensures desk { desk.new ≡ (write_reply image.now desk.old session rec words).desk }
 {
-    let active = census(desk);
-    let clock = desk.clock;
-    let n = desk.n;
-    let m = desk.m;
-    let fault = record_fault(image, active < INCOHERENT, clock, n, m, session, rec);
-    if fault != 0 {
-        return gives(desk, WriteAnswer::Refused(fault));
-    }
+    desk.entered_record(image, session, rec)?;
     let i = session as usize;
     let e = desk.sessions[i];
-    let p = e.phase;
-    if !is_active(p) {
-        return gives(desk, WriteAnswer::Refused(6));
+    if !e.phase.is_active() {
+        return Err(Refusal::WrongPhase);
     }
-    let own = own_place(e, rec);
-    if own < 4 {
+    if let Some(own) = own_place(e, rec) {
         desk.sessions[i] = overwrite(e, own, rec, words);
-        return gives(desk, WriteAnswer::Ok);
+        return Ok(());
     }
     let k = rec as usize;
     let mark = desk.holders[k];
-    let count = e.count;
-    let free = empty_slot(image, n, session);
-    let blocked = copy_fault(mark, count, free);
-    if blocked == 7 {
-        let copies = e.copies;
-        unmark(&mut desk.holders, copies, count);
-        let order = desk.order;
-        desk.order = leave(order, session as u8, active);
-        desk.sessions[i] = idle_session();
-        return gives(desk, WriteAnswer::Taken(mark as u64 - 1));
+    if mark != 0 {
+        unmark(&mut desk.holders, e.copies, e.count);
+        desk.order = leave(desk.order, session as u8);
+        desk.sessions[i] = Session::idle();
+        return Err(Refusal::OtherHolds(u64::from(mark) - 1));
     }
-    if blocked != 0 {
-        return gives(desk, WriteAnswer::Refused(blocked));
-    }
-    let slot = slot_for(count, free, e.slot);
+    let slot = slot_for(image, desk.n, session, e)?;
     desk.holders[k] = session as u8 + 1;
     desk.sessions[i] = extend(e, rec, words, slot);
-    gives(desk, WriteAnswer::Ok)
+    Ok(())
+}
+
+// Writes four words to the session's copy of a record.
+pub fn write(image: &[u64], mut desk: Desk, session: u64, rec: u64, words: [u64; 4]) -> Reply<()>
+    ensures reply { result ≡ write_reply image.now desk session rec words }
+    ensures told { write_told result.answer ≡ write_said image.now desk session rec }
+{
+    let answer = put_copy(image, &mut desk, session, rec, words);
+    Reply { answer, desk }
 }

@@ -1,25 +1,17 @@
--- Laws of a cut: what the loops of keep and cut_back do in a turn, and that the first k entries of a trace, made again, are the first k of the
+-- Laws of a cut: what keep copies, what the pairs of a trace are, and that the first k entries of a trace, made again, are the first k of the
 -- list that it has.
-use Prim.Native.Nat.{ℕ, zero, suc, ◌+◌, ◌-◌, ◌≤◌, ◌<◌}
+use Prim.Native.Nat.{ℕ, zero, suc, ◌+◌, ◌*◌, ◌≤◌, ◌<◌}
 use mathlib.Core.Bool.{Bool, true, false, cond}
 use mathlib.Core.Path.{◌≡◌, refl, sym, ap, ◌∙◌}
 use mathlib.Core.List.{List, [], ◌∷◌, ◌++◌}
 use native.Mathlib.Omega.{arith}
-use native.Mathlib.Numerals.{add-one}
 use lib.Dec.{ltb, eqb}
-use lib.ListN.{length, get_or, set, take, drop, length-set, length-drop}
-use lib.Seq.{set_out, drop-cons, take_all, take-length}
+use lib.ListN.{length, get_or, set, take, drop, length-set}
+use lib.Seq.{set_out, take_all, take-length}
 use borrow.Author.Tests.{eqb-true, ltb-true, ltb-false}
+use Rattle.std.specs.Simd.{first_chunks}
 use Rattle.layout.specs.Entries.{Entry, store, fence, made, encoded, listed}
 use Rattle.steps.specs.Cut.{overlaid, entry_made, replayed, arriving, cut_back}
-
--- a turn of keep
-pub copy_more : (i : ℕ) (xs ys : List ℕ) → i < length xs → i < length ys
-    → set (take i xs ++ drop i ys) i (get_or xs i 0) ≡ take (suc i) xs ++ drop (suc i) ys
-copy_more i [] ys h k = absurd (omega arith)
-copy_more i (x ∷ xs) [] h k = absurd (omega arith)
-copy_more zero (x ∷ xs) (y ∷ ys) h k = refl
-copy_more (suc i) (x ∷ xs) (y ∷ ys) h k = ap (λ (l : List ℕ). x ∷ l) (copy_more i xs ys (omega arith) (omega arith))
 
 -- the first i words are copied, and one of the slices has no more
 pub copied_all : (i : ℕ) (xs ys : List ℕ) → i ≤ length xs → i ≤ length ys → (i < length xs → i < length ys → ⊥)
@@ -51,28 +43,33 @@ arrived-set i w img h = arrived-by (eqb i 0xffff_ffff_ffff_ffff) i w img refl h
 pub arrived-out : (i w : ℕ) (img : List ℕ) → length img ≤ 0xffff_ffff_ffff_ffff → length img ≤ i → entry_made i w img ≡ img
 arrived-out i w img h k = arrived-set i w img h ∙ set_out img i w k
 
-add-two : (n : ℕ) → n + 2 ≡ suc (suc n)
-add-two n = omega arith
+-- the entries that pairs of words have, made one after the other
+abbrev pub arrived : List (List ℕ) → List ℕ → List ℕ
+arrived [] img = img
+arrived (p ∷ ps) img = arrived ps (entry_made (get_or p 0 0) (get_or p 1 0) img)
 
--- a turn of replay
-pub replay-more : (left at : ℕ) (trace img : List ℕ) → 0 < left → 1 < length trace - at
-    → replayed left (drop at trace) img ≡ replayed (left - 1) (drop (at + 2) trace) (entry_made (get_or trace at 0) (get_or trace (at + 1) 0) img)
-replay-more zero at trace img h k = absurd (omega arith)
-replay-more (suc m) at trace img h k =
-    let e : suc m - 1 ≡ m = omega arith in
-    rw (e, add-two, add-one)
-    (ap (λ (l : List ℕ). replayed (suc m) l img)
-    (drop-cons trace at 0 (omega arith) ∙ ap (λ (l : List ℕ). get_or trace at 0 ∷ l) (drop-cons trace (suc at) 0 (omega arith))))
+-- the first n pairs of a trace are its first n entries; n is the count, or all the pairs that the trace has
+pub arrived-replayed : (n k count : ℕ) (trace img : List ℕ) → 2 * k ≤ length trace → length trace < 2 * k + 2
+    → n ≤ k → n ≤ count → (n < k → n < count → ⊥) → arrived (take n (first_chunks 2 k trace)) img ≡ replayed count trace img
+arrived-replayed zero k zero trace img l h p q f = refl
+arrived-replayed zero zero (suc count) [] img l h p q f = refl
+arrived-replayed zero zero (suc count) (i ∷ []) img l h p q f = refl
+arrived-replayed zero zero (suc count) (i ∷ w ∷ trace) img l h p q f = absurd (omega arith)
+arrived-replayed zero (suc k) (suc count) trace img l h p q f = absurd (f (omega arith) (omega arith))
+arrived-replayed (suc n) zero count trace img l h p q f = absurd (omega arith)
+arrived-replayed (suc n) (suc k) zero trace img l h p q f = absurd (omega arith)
+arrived-replayed (suc n) (suc k) (suc count) [] img l h p q f = absurd (omega arith)
+arrived-replayed (suc n) (suc k) (suc count) (i ∷ []) img l h p q f = absurd (omega arith)
+arrived-replayed (suc n) (suc k) (suc count) (i ∷ w ∷ trace) img l h p q f =
+    arrived-replayed n k count trace (entry_made i w img) (omega arith) (omega arith) (omega arith) (omega arith)
+    (λ a b. f (omega arith) (omega arith))
 
-replayed-none : (k : ℕ) (trace img : List ℕ) → (0 < k → 1 < length trace → ⊥) → replayed k trace img ≡ img
-replayed-none zero trace img f = refl
-replayed-none (suc k) [] img f = refl
-replayed-none (suc k) (i ∷ []) img f = refl
-replayed-none (suc k) (i ∷ w ∷ trace) img f = absurd (f (omega arith) (omega arith))
-
--- nothing is left to replay, or the trace has no more
-pub replay-over : (left at : ℕ) (trace img : List ℕ) → (0 < left → 1 < length trace - at → ⊥) → replayed left (drop at trace) img ≡ img
-replay-over left at trace img f = replayed-none left (drop at trace) img (λ a b. f a (omega (arith, length-drop at trace)))
+-- one pair more
+pub arrived-more : (i : ℕ) (ps : List (List ℕ)) (img d : List ℕ) → i < length ps
+    → entry_made (get_or (get_or ps i d) 0 0) (get_or (get_or ps i d) 1 0) (arrived (take i ps) img) ≡ arrived (take (suc i) ps) img
+arrived-more i [] img d h = absurd (omega arith)
+arrived-more zero (p ∷ ps) img d h = refl
+arrived-more (suc i) (p ∷ ps) img d h = arrived-more i ps (entry_made (get_or p 0 0) (get_or p 1 0) img) d (omega arith)
 
 replayed-encoded : (k : ℕ) (es : List Entry) (rest img : List ℕ) → k ≤ length es → length img ≤ 0xffff_ffff_ffff_ffff
     → replayed k (encoded es ++ rest) img ≡ made (take k es) img

@@ -3,30 +3,30 @@ use mathlib.Core.Path.{◌≡◌, refl}
 use mathlib.Core.List.{List, [], ◌∷◌}
 use Prim.Native.Nat.{ℕ}
 use Rattle.codec.specs.Bytes.{little}
-use Rattle.codec.specs.Steps.{step_of, step_words, no_words, none, decode_of}
+use Rattle.codec.specs.Steps.{step_of, step_words, no_words, decode_of}
 use Rattle.lines.specs.Line.{spelled, decimal_of, step_head}
 use Rattle.steps.specs.Cut.{cut_back}
 use Rattle.lines.specs.Result.{outcome_text, step_line, note_line, bad_line, replayed_line, open_line}
-use Rattle.codec.specs.declared.step.Step.{Step}
 use Rattle.codec.specs.declared.step.Step.TheVariants.{Lay, Begin, Read, Write, Finish, Publish, Settle, Reclaim, Abandon, Cut}
 use Rattle.lines.specs.declared.outcome.Outcome.TheVariants.{Refused, Ok, Start, End as Ended, Sealed, Empty, Own, Copy, Home, Wait, None, Held, Cleared, Cut as WasCut, Noted}
+use Rattle.layout.specs.declared.refusal.Refusal.TheVariants.{NoRecord}
 use Rattle.codec.specs.declared.decoding.Found.TheVariants.{Whole, Bad, Short, End}
-use Rattle.codec.specs.declared.decoding.Decoded.{Decoded}
+use Rattle.codec.specs.declared.decoding.Found.{Found}
 
 -- the whole case, line for line
 whole-case : ◌≡◌ {A = List (List ℕ)}
-    (step_line 1 (Lay 2 2) Ok no_words
-    ∷ step_line 2 (Begin 0) (Start 1) no_words
-    ∷ step_line 3 (Begin 1) (Start 1) no_words
-    ∷ step_line 4 (Write 0 1) Ok (5 ∷ 0 ∷ 0 ∷ 0 ∷ [])
-    ∷ step_line 5 (Read 0 1) Own (5 ∷ 0 ∷ 0 ∷ 0 ∷ [])
-    ∷ step_line 6 (Finish 0) (Sealed 1) no_words
-    ∷ step_line 7 (Publish 0) (Ended 2) no_words
-    ∷ step_line 8 (Read 1 1) Home no_words
-    ∷ step_line 9 (Settle 0) (Wait 1) no_words
-    ∷ step_line 10 (Finish 1) Empty no_words
-    ∷ step_line 11 (Settle 0) Ok no_words
-    ∷ step_line 12 (Reclaim 0) (Cleared 1) no_words
+    (step_line 1 (Lay 2 2) Ok
+    ∷ step_line 2 (Begin 0) (Start 1)
+    ∷ step_line 3 (Begin 1) (Start 1)
+    ∷ step_line 4 (Write 0 1 (5 ∷ 0 ∷ 0 ∷ 0 ∷ [])) Ok
+    ∷ step_line 5 (Read 0 1) (Own (5 ∷ 0 ∷ 0 ∷ 0 ∷ []))
+    ∷ step_line 6 (Finish 0) (Sealed 1)
+    ∷ step_line 7 (Publish 0) (Ended 2)
+    ∷ step_line 8 (Read 1 1) (Home no_words)
+    ∷ step_line 9 (Settle 0) (Wait 1)
+    ∷ step_line 10 (Finish 1) Empty
+    ∷ step_line 11 (Settle 0) Ok
+    ∷ step_line 12 (Reclaim 0) (Cleared 1)
     ∷ [])
     ((49 ∷ 32 ∷ 108 ∷ 97 ∷ 121 ∷ 32 ∷ 50 ∷ 32 ∷ 50 ∷ 32 ∷ 111 ∷ 107 ∷ 10 ∷ [])
     ∷ (50 ∷ 32 ∷ 98 ∷ 101 ∷ 103 ∷ 105 ∷ 110 ∷ 32 ∷ 48 ∷ 32 ∷ 115 ∷ 116 ∷ 97 ∷ 114 ∷ 116 ∷ 32 ∷ 49 ∷ 10 ∷ [])
@@ -46,14 +46,14 @@ whole-case = refl
 
 -- results that the whole case does not show, and the lines that print no step
 other-lines : ◌≡◌ {A = List (List ℕ)}
-    (step_line 1 (Lay 256 16) Ok no_words
-    ∷ step_line 2 (Write 3 255) (Refused 5 0) no_words
-    ∷ step_line 3 (Abandon 1) Ok no_words
-    ∷ step_line 4 (Read 1 0) Copy (18446744073709551615 ∷ 0 ∷ 10 ∷ 7 ∷ [])
-    ∷ step_line 5 (Reclaim 2) None no_words
-    ∷ step_line 6 (Reclaim 2) (Held 4) no_words
-    ∷ step_line 7 (Cut 8) Noted no_words
-    ∷ step_line 8 (Finish 0) WasCut no_words
+    (step_line 1 (Lay 256 16) Ok
+    ∷ step_line 2 (Write 3 255 no_words) (Refused NoRecord)
+    ∷ step_line 3 (Abandon 1) Ok
+    ∷ step_line 4 (Read 1 0) (Copy (18446744073709551615 ∷ 0 ∷ 10 ∷ 7 ∷ []))
+    ∷ step_line 5 (Reclaim 2) None
+    ∷ step_line 6 (Reclaim 2) (Held 4)
+    ∷ step_line 7 (Cut 8) Noted
+    ∷ step_line 8 (Finish 0) WasCut
     ∷ replayed_line 8 1
     ∷ open_line 8
     ∷ bad_line 10
@@ -73,12 +73,8 @@ other-lines : ◌≡◌ {A = List (List ℕ)}
 unfolding step_line step_head outcome_text decimal_of spelled note_line
 other-lines = refl
 
--- a whole step that is no write
-abbrev whole : Step → ℕ → Decoded
-whole step size = record { found = Whole step; size = size; words = no_words }
-
 -- a step of each kind, N byte 0, a short body, an unknown kind, the input's end
-steps-read : ◌≡◌ {A = List Decoded}
+steps-read : ◌≡◌ {A = List Found}
     (decode_of (0 ∷ 2 ∷ 2 ∷ [])
     ∷ decode_of (0 ∷ 0 ∷ 16 ∷ [])
     ∷ decode_of (1 ∷ 0 ∷ [])
@@ -95,21 +91,21 @@ steps-read : ◌≡◌ {A = List Decoded}
     ∷ decode_of (10 ∷ 1 ∷ 2 ∷ [])
     ∷ decode_of []
     ∷ [])
-    (whole (Lay 2 2) 3
-    ∷ whole (Lay 256 16) 3
-    ∷ whole (Begin 0) 2
-    ∷ whole (Read 0 1) 3
-    ∷ record { found = Whole (Write 0 1); size = 35; words = 5 ∷ 257 ∷ 0 ∷ 18446744073709551615 ∷ [] }
-    ∷ whole (Finish 0) 2
-    ∷ whole (Publish 0) 2
-    ∷ whole (Settle 0) 2
-    ∷ whole (Reclaim 0) 2
-    ∷ whole (Abandon 15) 2
-    ∷ whole (Cut 255) 2
-    ∷ none Short
-    ∷ none Short
-    ∷ none Bad
-    ∷ none End
+    (Whole (Lay 2 2) 3
+    ∷ Whole (Lay 256 16) 3
+    ∷ Whole (Begin 0) 2
+    ∷ Whole (Read 0 1) 3
+    ∷ Whole (Write 0 1 (5 ∷ 257 ∷ 0 ∷ 18446744073709551615 ∷ [])) 35
+    ∷ Whole (Finish 0) 2
+    ∷ Whole (Publish 0) 2
+    ∷ Whole (Settle 0) 2
+    ∷ Whole (Reclaim 0) 2
+    ∷ Whole (Abandon 15) 2
+    ∷ Whole (Cut 255) 2
+    ∷ Short
+    ∷ Short
+    ∷ Bad
+    ∷ End
     ∷ [])
 unfolding decode_of step_of step_words little
 steps-read = refl

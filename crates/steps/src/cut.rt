@@ -1,16 +1,13 @@
 // A cut: of a step that stores, only the first entries arrive.
 ghost use Rattle.std.specs.Prelude.{◌≡◌};
-ghost use Rattle.steps.specs.Cut.{overlaid, entry_made, replayed, arriving, cut_back};
+ghost use Rattle.steps.specs.Cut.{overlaid, entry_made, replayed, cut_back};
 
 // Copies an image over another slice from the first word on, as far as both reach.
 pub fn keep(image: &[u64], before: &mut [u64])
     ensures { before.new ≡ overlaid image.now before.old }
 {
-    let mut i = 0;
-    while i < image.len() && i < before.len() {
-        before[i] = image[i];
-        i += 1;
-    }
+    let n = image.len().min(before.len());
+    before[..n].copy_from_slice(&image[..n]);
 }
 
 // Makes one entry. A fence, and any index past the image's end, changes nothing.
@@ -18,8 +15,7 @@ fn arrive(image: &mut [u64], index: u64, word: u64)
     ensures { image.new ≡ entry_made index word image.old }
 {
     if index < image.len() as u64 {
-        let i = index as usize;
-        image[i] = word;
+        image[index as usize] = word;
     }
 }
 
@@ -27,21 +23,11 @@ fn arrive(image: &mut [u64], index: u64, word: u64)
 fn replay(image: &mut [u64], trace: &[u64], count: u64)
     ensures { image.new ≡ replayed count trace.now image.old }
 {
-    let mut left = count;
-    let mut at: usize = 0;
-    while 0 < left && 1 < trace.len() - at {
-        let index = trace[at];
-        let word = trace[at + 1];
+    let (pairs, _) = trace.as_chunks::<2>();
+    let n = pairs.len().min(count as usize);
+    for &[index, word] in &pairs[..n] {
         arrive(image, index, word);
-        at += 2;
-        left -= 1;
     }
-}
-
-fn arriving_of(entries: u64, k: u64) -> u64
-    ensures { result ≡ arriving entries k }
-{
-    if k < entries { k } else { entries }
 }
 
 // Brings the image back to what was kept before a step, with the first k of the step's entries made, all if it has fewer.
@@ -49,6 +35,5 @@ pub fn cut_back(image: &mut [u64], before: &[u64], trace: &[u64], entries: u64, 
     ensures { image.new ≡ cut_back image.old before.now trace.now entries k }
 {
     keep(before, image);
-    let count = arriving_of(entries, k);
-    replay(image, trace, count);
+    replay(image, trace, entries.min(k));
 }

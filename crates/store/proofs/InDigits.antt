@@ -7,6 +7,7 @@ use Rattle.layout.specs.Homes.{homes_writes}
 use Rattle.layout.specs.Image.{shaped_b, occupied_b}
 use Rattle.layout.specs.Lay.{lay_fault, lay_answer, laid_image}
 use Rattle.layout.specs.Oldest.{oldest_of}
+use Rattle.layout.specs.Refusal.{cause}
 use Rattle.journal.specs.Changes.{changes_of, changes_below}
 use Rattle.journal.specs.Lengths.{finish_length, settle_length, recover_length, seal_length, replay_length}
 use Rattle.journal.specs.Log.{pairs_writes, denoted, body_writes, short_writes, unsound_b, shared_b}
@@ -56,7 +57,7 @@ coherent =
     }
 
 pub in-digits : InDigits
-unfolding any_below lowest first answered homes_writes shaped_b occupied_b lay_fault lay_answer laid_image oldest_of
+unfolding any_below lowest first answered cause homes_writes shaped_b occupied_b lay_fault lay_answer laid_image oldest_of
     finish_length settle_length recover_length seal_length replay_length changes_of changes_below
     pairs_writes denoted body_writes short_writes unsound_b shared_b without unmarked entry_fault
     publish_fault publish_entries publish_reply copy_fault write_fault write_reply finish_fault finish_entries finish_reply

@@ -7,6 +7,7 @@ use Rattle.layout.specs.Checks.{first, answered}
 use Rattle.layout.specs.Homes.{homes_writes}
 use Rattle.layout.specs.Image.{shaped_b, occupied_b}
 use Rattle.layout.specs.Oldest.{oldest_of}
+use Rattle.layout.specs.Refusal.{cause}
 use Rattle.journal.specs.Changes.{changes_of, changes_below}
 use Rattle.journal.specs.Lengths.{finish_length, recover_length, seal_length, replay_length}
 use Rattle.journal.specs.Log.{pairs_writes, denoted, body_writes, short_writes, unsound_b, shared_b}
@@ -45,7 +46,7 @@ coherent =
     }
 
 pub short-in-digits : ShortInDigits
-unfolding any_below lowest first answered homes_writes shaped_b occupied_b oldest_of
+unfolding any_below lowest first answered cause homes_writes shaped_b occupied_b oldest_of
     finish_length recover_length seal_length replay_length changes_of changes_below
     pairs_writes denoted body_writes short_writes unsound_b shared_b entry_fault finish_fault finish_entries finish_reply
     unsound_place tied_below ties_b recover_fault first_log recover_entries recover_refused recover_reply

@@ -3,6 +3,7 @@ use mathlib.Core.Path.{refl}
 use Rattle.layout.specs.Below.{all_below, any_below, count_below, lowest}
 use Rattle.layout.specs.Checks.{first, answered}
 use Rattle.layout.specs.Image.{shaped_b}
+use Rattle.layout.specs.Refusal.{cause}
 use Rattle.desk.specs.Begin.{begin_fault, begin_reply}
 use Rattle.desk.specs.Coherent.{fresh_b, places_ok, session_ok, copies_b, coherent_b}
 use Rattle.desk.specs.Entering.{session_fault, entry_fault}
@@ -11,7 +12,7 @@ use Rattle.snapshot.specs.Read.{read_fault, sight_of, read_reply}
 use Rattle.store.specs.VanLoads.{VanLoads}
 
 pub van-loads : VanLoads
-unfolding all_below any_below count_below lowest first answered shaped_b fresh_b places_ok session_ok copies_b coherent_b member store_fault set_fault group_fault group_entries published_below group_reply session_fault entry_fault begin_fault begin_reply read_fault sight_of read_reply
+unfolding all_below any_below count_below lowest first answered cause shaped_b fresh_b places_ok session_ok copies_b coherent_b member store_fault set_fault group_fault group_entries published_below group_reply session_fault entry_fault begin_fault begin_reply read_fault sight_of read_reply
 van-loads =
     record {
       two-told = refl;

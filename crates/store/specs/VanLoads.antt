@@ -73,7 +73,7 @@ both_out_before = (group_reply (van_image 9) (van_desk 3 (Active 3)) 48 5).desk
 
 -- what session 1 reads
 abbrev pub sees : Desk → ℕ → Told
-sees d r = read_told (read_reply (van_image 9) d 1 r).answer (read_reply (van_image 9) d 1 r).words
+sees d r = read_told (read_reply (van_image 9) d 1 r).answer
 
 pub record VanLoads : Type 0 where
   -- 5 is sessions 0 and 2: one end for both, one step of the clock, and session 1 stays sealed

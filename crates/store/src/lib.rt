@@ -2,14 +2,8 @@
 // methods of `Desk`.
 #![tactic(auto)]
 
-pub use commit::{
-    FinishAnswer, FinishReply, ReclaimAnswer, ReclaimReply, SettleAnswer, SettleReply, finish,
-    reclaim, settle,
-};
-pub use desk::{
-    AbandonAnswer, AbandonReply, BeginAnswer, BeginReply, Desk, Phase, PublishAnswer, PublishReply,
-    RecordCopy, Session,
-};
-pub use layout::{LayAnswer, lay};
-pub use recovery::{OpenAnswer, OpenReply, RecoverAnswer, RecoverReply, open, recover};
-pub use snapshot::{ReadAnswer, ReadReply, WriteAnswer, WriteReply, read, write};
+pub use commit::{Reclaimed, finish, reclaim, settle};
+pub use desk::{Desk, Phase, RecordCopy, Reply, Session, StoringReply};
+pub use layout::{Refusal, lay};
+pub use recovery::{RecoverReply, open, recover};
+pub use snapshot::{Sight, Source, read, write};

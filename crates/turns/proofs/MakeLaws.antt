@@ -9,7 +9,7 @@ use Rattle.layout.specs.Entries.{Entry, store, fence, made, listed}
 use Rattle.desk.specs.declared.state.Desk.{Desk}
 use Rattle.steps.specs.Apply.{applied_of, applied_entries}
 use Rattle.steps.specs.Cut.{overlaid, replayed, arriving, cut_back}
-use Rattle.codec.specs.Steps.{step_of, no_words}
+use Rattle.codec.specs.Steps.{step_of}
 use Rattle.steps.specs.declared.applying.Applied.{Applied}
 use Rattle.codec.specs.declared.step.Step.{Step}
 use Rattle.codec.specs.declared.step.Step.TheVariants.{Lay, Begin, Read, Write, Finish, Publish, Settle, Reclaim, Abandon, Cut}
@@ -41,12 +41,12 @@ cut-leaves k es img before trace h n =
 
 -- the same, of what the calls before have left
 pub cut-after : (k : ℕ) (img before trace : List ℕ) (d : Desk) (step : Step) {img' before' trace' out : List ℕ} {a : Applied}
-    → a ≡ applied_of img d (length trace) step no_words → img' ≡ made (applied_entries img d (length trace) step) img
+    → a ≡ applied_of img d (length trace) step → img' ≡ made (applied_entries img d (length trace) step) img
     → before' ≡ overlaid img before → trace' ≡ listed (applied_entries img d (length trace) step) trace
     → out ≡ cut_back img' before' trace' a.entries k → length img ≤ length before → length img ≤ 0xffff_ffff_ffff_ffff
     → out ≡ made (take k (applied_entries img d (length trace) step)) img
 cut-after k img before trace d step q i b t o h f =
-    let n = ap (λ (a : Applied). a.entries) q ∙ applied-counted img d (length trace) step no_words in
+    let n = ap (λ (a : Applied). a.entries) q ∙ applied-counted img d (length trace) step in
     o ∙ rw (i, b, t, n) (cut-leaves k (applied_entries img d (length trace) step) img before trace h f)
 
 pub all_fit : AllFit
@@ -57,7 +57,7 @@ pub cut-waits : CutWaits
 cut-waits img d len (Lay n m) e = refl
 cut-waits img d len (Begin s) e = refl
 cut-waits img d len (Read s r) e = refl
-cut-waits img d len (Write s r) e = refl
+cut-waits img d len (Write s r ws) e = refl
 cut-waits img d len (Finish s) e = cc
 cut-waits img d len (Publish s) e = cc
 cut-waits img d len (Settle s) e = cc
@@ -67,4 +67,4 @@ cut-waits img d len (Cut k) e = refl
 
 pub cut-kinds : CutKinds
 unfolding step_of
-cut-kinds a b = refl
+cut-kinds a b ws = refl

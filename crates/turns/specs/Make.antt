@@ -1,12 +1,9 @@
 -- A step made on the store, and the lines that it prints (document 01, "The program").
-use Rattle.std.specs.Prelude.{ℕ, ◌+◌, ◌*◌, ◌≤◌, Bool, true, false, not, ◌&&◌, cond, List, [], ◌∷◌, ◌++◌, ◌≡◌, length, take, drop, leb, ltb, eqb}
+use Rattle.std.specs.Prelude.{ℕ, ◌+◌, ◌*◌, ◌≤◌, Bool, true, false, not, ◌&&◌, cond, List, [], ◌∷◌, ◌++◌, ◌≡◌, length, take, drop, leb, ltb, eqb, Option, Some, None, is_some, ⊤, Ok, Err}
 use Rattle.layout.specs.Entries.{Entry}
 use Rattle.layout.specs.Image.{size_of}
 use Rattle.layout.specs.Lay.{lay_answer, laid_image}
-use Rattle.layout.specs.declared.laying.LayAnswer.{LayAnswer}
-use Rattle.layout.specs.declared.laying.LayAnswer.TheVariants.{Refused as LayRefused, Laid}
-use Rattle.recovery.specs.declared.recovering.RecoverAnswer.{RecoverAnswer}
-use Rattle.recovery.specs.declared.recovering.RecoverAnswer.TheVariants.{Refused as RecoverRefused, Unsound, Clean, Replayed}
+use Rattle.layout.specs.Refusal.{Answer}
 use Rattle.desk.specs.declared.state.Desk.{Desk}
 use Rattle.steps.specs.Apply.{applied_entries}
 use Rattle.steps.specs.Cut.{overlaid}
@@ -33,7 +30,7 @@ abbrev pub stores_b : Step → Bool
 stores_b (Lay n m) = false
 stores_b (Begin s) = false
 stores_b (Read s r) = false
-stores_b (Write s r) = false
+stores_b (Write s r ws) = false
 stores_b (Finish s) = true
 stores_b (Publish s) = true
 stores_b (Settle s) = true
@@ -47,18 +44,25 @@ CutWaits = (img : List ℕ) (d : Desk) (len : ℕ) (step : Step) → stores_b st
 
 -- in numbers: of the kinds 0 to 9 a cut waits for 4 to 7
 abbrev pub CutKinds : Type 0
-CutKinds = (a b : ℕ) → stores_b (step_of 0 a b) ∷ stores_b (step_of 1 a b) ∷ stores_b (step_of 2 a b) ∷ stores_b (step_of 3 a b)
-    ∷ stores_b (step_of 4 a b) ∷ stores_b (step_of 5 a b) ∷ stores_b (step_of 6 a b) ∷ stores_b (step_of 7 a b)
-    ∷ stores_b (step_of 8 a b) ∷ stores_b (step_of 9 a b) ∷ []
+CutKinds = (a b : ℕ) (ws : List ℕ) → stores_b (step_of 0 a b ws) ∷ stores_b (step_of 1 a b ws) ∷ stores_b (step_of 2 a b ws) ∷ stores_b (step_of 3 a b ws)
+    ∷ stores_b (step_of 4 a b ws) ∷ stores_b (step_of 5 a b ws) ∷ stores_b (step_of 6 a b ws) ∷ stores_b (step_of 7 a b ws)
+    ∷ stores_b (step_of 8 a b ws) ∷ stores_b (step_of 9 a b ws) ∷ []
     ≡ false ∷ false ∷ false ∷ false ∷ true ∷ true ∷ true ∷ true ∷ false ∷ false ∷ []
 
--- the next step of such a kind after a step 9 is cut
+-- k of the cut that waits for a step: the next step of such a kind after a step 9 is cut
+abbrev pub cut_of : State → Step → Option ℕ
+cut_of s step = cond (stores_b step) s.cut None
+
 abbrev pub is_cut_b : State → Step → Bool
-is_cut_b s step = s.cutting && stores_b step
+is_cut_b s step = is_some (cut_of s step)
 
 -- of a step that is cut only the first k entries arrive, all if it has fewer
+abbrev pub up_to : Option ℕ → List Entry → List Entry
+up_to None es = es
+up_to (Some k) es = take k es
+
 abbrev pub arrives_of : State → Step → List Entry → List Entry
-arrives_of s step es = cond (is_cut_b s step) (take s.cut es) es
+arrives_of s step es = up_to (cut_of s step) es
 
 -- the image of before a step that is cut is kept
 abbrev pub kept_of : State → Step → List ℕ → List ℕ → List ℕ
@@ -77,7 +81,7 @@ abbrev pub noted_of : State → Step → State
 noted_of s (Lay n m) = s
 noted_of s (Begin t) = s
 noted_of s (Read t r) = s
-noted_of s (Write t r) = s
+noted_of s (Write t r ws) = s
 noted_of s (Finish t) = s
 noted_of s (Publish t) = s
 noted_of s (Settle t) = s
@@ -102,31 +106,29 @@ abbrev pub recovered_of : State → ℕ → State
 recovered_of s p = clean_of (put_of s p)
 
 -- after a cut "replayed P" for each log, then "open": the line of one call of recover, by its answer
-abbrev pub resumed_line : ℕ → RecoverAnswer → List ℕ
-resumed_line number (RecoverRefused k) = open_line number
-resumed_line number (Unsound place) = open_line number
-resumed_line number Clean = open_line number
-resumed_line number (Replayed p) = replayed_line number p
+abbrev pub resumed_line : ℕ → Answer (Option ℕ) → List ℕ
+resumed_line number (Ok (Some p)) = replayed_line number p
+resumed_line number (Ok None) = open_line number
+resumed_line number (Err r) = open_line number
 
 -- and the state after it
-abbrev pub resumed_of : State → RecoverAnswer → ℕ → State
-resumed_of s (RecoverRefused k) p = recovered_of s p
-resumed_of s (Unsound place) p = recovered_of s p
-resumed_of s Clean p = recovered_of s p
-resumed_of s (Replayed n) p = replayed_of s p
+abbrev pub resumed_of : State → Answer (Option ℕ) → ℕ → State
+resumed_of s (Ok (Some n)) p = replayed_of s p
+resumed_of s (Ok None) p = recovered_of s p
+resumed_of s (Err r) p = recovered_of s p
 
 -- step 0, lay and open: the part of the memory that is laid
 abbrev pub lay_part : List ℕ → ℕ → ℕ → List ℕ
 lay_part memory n m = take (image_size (length memory) n m) memory
 
 -- the answer of lay on that part
-abbrev pub laying : List ℕ → ℕ → ℕ → LayAnswer
+abbrev pub laying : List ℕ → ℕ → ℕ → Answer ⊤
 laying memory n m = lay_answer n m (lay_part memory n m)
 
 -- refused, it prints its line, and no more steps are taken; accepted, the image has that size and is to be opened
-abbrev pub laid_of : State → ℕ → LayAnswer → ℕ → State
-laid_of s size (LayRefused k) p = bad_of s p
-laid_of s size Laid p = sized_of (put_of s p) size
+abbrev pub laid_of : State → ℕ → Answer ⊤ → ℕ → State
+laid_of s size (Err r) p = bad_of s p
+laid_of s size (Ok x) p = sized_of (put_of s p) size
 
 -- the memory past that part is as it was
 abbrev pub memory_of : List ℕ → ℕ → ℕ → List ℕ

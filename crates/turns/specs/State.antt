@@ -1,6 +1,8 @@
 -- A walk's state, changed in one respect (document 01, "The program"). Assumes nothing.
-use Rattle.std.specs.Prelude.{ℕ, ◌+◌, ◌-◌, Bool, true, false, eqb}
+use Rattle.std.specs.Prelude.{ℕ, ◌+◌, ◌-◌, Bool, cond, eqb, Option, Some, None}
 use Rattle.turns.specs.declared.state.State.{State}
+use Rattle.turns.specs.declared.state.Next.{Next}
+use Rattle.turns.specs.declared.state.Next.TheVariants.{Step, Open, Recover, Over, Failed, Stopped}
 
 -- a walk starts before the first step, with no image
 abbrev pub first_state : ℕ → Bool → State
@@ -11,14 +13,9 @@ first_state have ended =
       put = 0;
       size = 0;
       number = 0;
-      cut = 0;
-      cutting = false;
+      cut = None;
       ended = ended;
-      lost = false;
-      closed = false;
-      over = false;
-      failed = false;
-      stopped = false;
+      next = Step;
     }
 
 -- ---- one part changed
@@ -33,18 +30,13 @@ placed s at have put number =
       size = s.size;
       number = number;
       cut = s.cut;
-      cutting = s.cutting;
       ended = s.ended;
-      lost = s.lost;
-      closed = s.closed;
-      over = s.over;
-      failed = s.failed;
-      stopped = s.stopped;
+      next = s.next;
     }
 
 -- the image's size, and the cut that waits
-abbrev pub planned : State → ℕ → ℕ → Bool → State
-planned s size cut cutting =
+abbrev pub planned : State → ℕ → Option ℕ → State
+planned s size cut =
     record {
       at = s.at;
       have = s.have;
@@ -52,18 +44,13 @@ planned s size cut cutting =
       size = size;
       number = s.number;
       cut = cut;
-      cutting = cutting;
       ended = s.ended;
-      lost = s.lost;
-      closed = s.closed;
-      over = s.over;
-      failed = s.failed;
-      stopped = s.stopped;
+      next = s.next;
     }
 
--- whether the input has ended, the desk is lost, the image is to be opened, no more steps are taken
-abbrev pub flagged : State → Bool → Bool → Bool → Bool → State
-flagged s ended lost closed over =
+-- whether the input has ended
+abbrev pub with_ended : State → Bool → State
+with_ended s ended =
     record {
       at = s.at;
       have = s.have;
@@ -71,18 +58,13 @@ flagged s ended lost closed over =
       size = s.size;
       number = s.number;
       cut = s.cut;
-      cutting = s.cutting;
       ended = ended;
-      lost = lost;
-      closed = closed;
-      over = over;
-      failed = s.failed;
-      stopped = s.stopped;
+      next = s.next;
     }
 
--- whether a write has failed, and whether the walk has stopped
-abbrev pub halted : State → Bool → Bool → State
-halted s failed stopped =
+-- what comes next
+abbrev pub with_next : State → Next → State
+with_next s next =
     record {
       at = s.at;
       have = s.have;
@@ -90,13 +72,8 @@ halted s failed stopped =
       size = s.size;
       number = s.number;
       cut = s.cut;
-      cutting = s.cutting;
       ended = s.ended;
-      lost = s.lost;
-      closed = s.closed;
-      over = s.over;
-      failed = failed;
-      stopped = stopped;
+      next = next;
     }
 
 -- ---- the changes
@@ -111,36 +88,36 @@ put_of s p = placed s s.at s.have p s.number
 
 -- the lines were written out, or the write failed
 abbrev pub written_of : State → Bool → State
-written_of s failed = halted (put_of s 0) failed s.stopped
+written_of s failed = with_next (put_of s 0) (cond failed Failed s.next)
 
 -- the bytes held stand first, with `came` more behind them; the input has ended where none came
 abbrev pub filled_of : State → ℕ → State
-filled_of s came = flagged (placed s 0 (s.have - s.at + came) s.put s.number) (eqb came 0) s.lost s.closed s.over
+filled_of s came = with_ended (placed s 0 (s.have - s.at + came) s.put s.number) (eqb came 0)
 
 -- no more steps are taken
 abbrev pub over_of : State → State
-over_of s = flagged s s.ended s.lost s.closed true
+over_of s = with_next s Over
 
 -- the walk stops
 abbrev pub stopped_of : State → State
-stopped_of s = halted s s.failed true
+stopped_of s = with_next s Stopped
 
 -- the image is laid, has this size and is to be opened
 abbrev pub sized_of : State → ℕ → State
-sized_of s size = flagged (planned s size s.cut s.cutting) s.ended s.lost true s.over
+sized_of s size = with_next (planned s size s.cut) Open
 
 -- the image is opened
 abbrev pub opened_of : State → State
-opened_of s = flagged s s.ended s.lost false s.over
+opened_of s = with_next s Step
 
 -- a cut after k entries waits for the next step that stores
 abbrev pub cut_at : State → ℕ → State
-cut_at s k = planned s s.size k true
+cut_at s k = planned s s.size (Some k)
 
 -- after a cut the desk is lost, and no other cut waits
 abbrev pub lost_of : State → State
-lost_of s = flagged (planned s s.size s.cut false) s.ended true s.closed s.over
+lost_of s = with_next (planned s s.size None) Recover
 
 -- the recovery is over, and the image is to be opened
 abbrev pub clean_of : State → State
-clean_of s = flagged s s.ended false true s.over
+clean_of s = with_next s Open

@@ -8,4 +8,4 @@ mod state;
 
 pub use making::{bad, lay_out, make, resume, tell};
 pub use output::{fail, flush};
-pub use state::{State, counted, filled, opened, start, stopped};
+pub use state::{Next, State, counted, filled, opened, start, stopped};

@@ -14,8 +14,7 @@ pub fn flush(stdout: Stdout, output: &[u8], s: State) -> State
     ensures follows { Follows s result 0 s.size }
     ensures flushed { Flushed s result }
 {
-    let put = s.put;
-    let done = stdout.write_all(&output[..put]).is_ok();
+    let done = stdout.write_all(&output[..s.put]).is_ok();
     written(s, done)
 }
 

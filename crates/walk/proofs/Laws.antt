@@ -1,6 +1,6 @@
 -- The laws of the turn that comes hold.
 use Prim.Native.Nat.{ℕ, ◌<◌}
-use mathlib.Core.Bool.{Bool, true, false, not, ◌&&◌, cond, false≢true}
+use mathlib.Core.Bool.{Bool, true, false, not, ◌&&◌, false≢true}
 use mathlib.Core.List.{List}
 use mathlib.Core.Path.{◌≡◌, refl, sym, ap, ◌∙◌}
 use native.Mathlib.Omega.{arith}
@@ -12,14 +12,14 @@ use Rattle.feed.specs.Feed.{held_of}
 use Rattle.codec.specs.Steps.{decode_of}
 use Rattle.codec.specs.declared.decoding.Found.{Found}
 use Rattle.codec.specs.declared.decoding.Found.TheVariants.{Whole, Bad as Unknown, Short, End as Nothing}
-use Rattle.codec.specs.declared.decoding.Decoded.{Decoded}
 use Rattle.turns.specs.declared.state.State.{State}
-use Rattle.walk.specs.Turn.{found_turn, lacks_b, holds_b, read_turn, taken_of, turn_of}
+use Rattle.turns.specs.declared.state.Next.{Next}
+use Rattle.turns.specs.declared.state.Next.TheVariants.{Step as TakeStep, Open as ToOpen, Recover as ToRecover, Over, Failed, Stopped}
+use Rattle.walk.specs.Turn.{found_turn, lacks_b, holds_b, read_turn, taken_of, over_turn, turn_at, turn_of}
 use Rattle.walk.specs.Walk.{full_b}
 use Rattle.walk.specs.Laws.{TurnLaws}
 use Rattle.walk.specs.declared.turn.Turn.{Turn}
 use Rattle.walk.specs.declared.turn.Turn.TheVariants.{Fill, Bad, End, Fail}
-use Rattle.walk.specs.declared.turn.Taken.{Taken}
 use Rattle.walk.specs.contracts.turn.Turn.{the_type}
 use Rattle.walk.proofs.Turns.{found-starved, step-turn-is, both}
 
@@ -36,73 +36,77 @@ second-fails : (a b : Bool) → a && b ≡ false → a ≡ true → b ≡ false
 second-fails true b e t = e
 second-fails false b e t = cc
 
--- the turn is that of the second, where it is not that of the first, and where the test says so
-past : (b : Bool) (x y : Taken) {turn : Turn} → (cond b x y).turn ≡ turn → (x.turn ≡ turn → ⊥) → (b ≡ false) × (y.turn ≡ turn)
-past true x y e n = absurd (n e)
-past false x y e n = (refl, e)
-
-else : (b : Bool) (x y : Taken) {turn : Turn} → b ≡ false → (cond b x y).turn ≡ turn → y.turn ≡ turn
-else b x y f e = rw f at e
-
 no-fill : (found : Found) (laid : Bool) → found_turn found laid ≡ Fill → ⊥
 no-fill found laid e = let l : 35 < 35 = rw e at (found-starved found laid 35) in omega (arith, l)
 
 end-lacks : (found : Found) (laid : Bool) → found_turn found laid ≡ End → lacks_b found ≡ true
-end-lacks (Whole step) laid e =
+end-lacks (Whole step size) laid e =
     absurd (step-turn-is (λ t. t ≡ End → ⊥) (λ q. differ q refl) (λ n m q. differ q refl) (λ s q. differ q refl) step laid e)
 end-lacks Unknown laid e = absurd (differ e refl)
 end-lacks Short laid e = refl
 end-lacks Nothing laid e = refl
 
 -- the turn where the bytes held are read
-module _ (d : Decoded) (s : State) where
+module _ (d : Found) (s : State) where
   read-fills : (read_turn d s).turn ≡ Fill → (s.put ≡ 0) × (s.ended ≡ false)
   read-fills e =
-      by-test (lacks_b d.found && holds_b s)
+      by-test (lacks_b d && holds_b s)
       (λ t. absurd (differ (rw t at e) refl))
-      (λ f. by-test (lacks_b d.found && not s.ended)
-      (λ t. let l = both (lacks_b d.found) (not s.ended) t in (bare s (second-fails _ _ f l.0), ended-not l.1))
-      (λ g. absurd (no-fill d.found _ (rw (f, g) at e))))
+      (λ f. by-test (lacks_b d && not s.ended)
+      (λ t. let l = both (lacks_b d) (not s.ended) t in (bare s (second-fails _ _ f l.0), ended-not l.1))
+      (λ g. absurd (no-fill d _ (rw (f, g) at e))))
     where
       ended-not : not s.ended ≡ true → s.ended ≡ false
       ended-not q = by-test s.ended (λ t. cc) (λ f. f)
 
   read-ends : (read_turn d s).turn ≡ End → s.put ≡ 0
   read-ends e =
-      by-test (lacks_b d.found && holds_b s)
+      by-test (lacks_b d && holds_b s)
       (λ t. absurd (differ (rw t at e) refl))
-      (λ f. by-test (lacks_b d.found && not s.ended)
+      (λ f. by-test (lacks_b d && not s.ended)
       (λ t. absurd (differ (rw (f, t) at e) refl))
-      (λ g. bare s (second-fails _ _ f (end-lacks d.found _ (rw (f, g) at e)))))
+      (λ g. bare s (second-fails _ _ f (end-lacks d _ (rw (f, g) at e)))))
+
+-- no more steps are taken
+over-fills : (s : State) → (over_turn s).turn ≡ Fill → ⊥
+over-fills s e = by-test (holds_b s) (λ t. differ (rw t at e) refl) (λ f. differ (rw f at e) refl)
+
+over-ends : (s : State) → (over_turn s).turn ≡ End → s.put ≡ 0
+over-ends s e = by-test (holds_b s) (λ t. absurd (differ (rw t at e) refl)) (λ f. bare s f)
 
 -- the turn that comes where there is room
+fills-at : (next : Next) (input : List ℕ) (s : State) → (turn_at next input s).turn ≡ Fill → (s.put ≡ 0) × (s.ended ≡ false)
+unfolding taken_of
+fills-at TakeStep input s e = read-fills (decode_of (held_of input s.at s.have)) s e
+fills-at ToOpen input s e = absurd (differ e refl)
+fills-at ToRecover input s e = absurd (differ e refl)
+fills-at Over input s e = absurd (over-fills s e)
+fills-at Failed input s e = absurd (differ e refl)
+fills-at Stopped input s e = absurd (over-fills s e)
+
+ends-at : (next : Next) (input : List ℕ) (s : State) → (turn_at next input s).turn ≡ End → s.put ≡ 0
+unfolding taken_of
+ends-at TakeStep input s e = read-ends (decode_of (held_of input s.at s.have)) s e
+ends-at ToOpen input s e = absurd (differ e refl)
+ends-at ToRecover input s e = absurd (differ e refl)
+ends-at Over input s e = over-ends s e
+ends-at Failed input s e = absurd (differ e refl)
+ends-at Stopped input s e = over-ends s e
+
 module _ (input : List ℕ) (s : State) where
   turn-fills : (turn_of input s).turn ≡ Fill → (s.put ≡ 0) × (s.ended ≡ false)
-  unfolding turn_of taken_of
-  turn-fills e =
-      let a = past s.failed _ _ e (λ q. differ q refl) in
-      let b = past (s.over && holds_b s) _ _ a.1 (λ q. differ q refl) in
-      let c = past s.over _ _ b.1 (λ q. differ q refl) in
-      let d = past s.closed _ _ c.1 (λ q. differ q refl) in
-      let l = past s.lost _ _ d.1 (λ q. differ q refl) in
-      read-fills (decode_of (held_of input s.at s.have)) s l.1
+  unfolding turn_of
+  turn-fills e = fills-at s.next input s e
 
   turn-ends : (turn_of input s).turn ≡ End → s.put ≡ 0
-  unfolding turn_of taken_of
-  turn-ends e =
-      let a = past s.failed _ _ e (λ q. differ q refl) in
-      let b = past (s.over && holds_b s) _ _ a.1 (λ q. differ q refl) in
-      by-test s.over
-      (λ t. bare s (second-fails _ _ b.0 t))
-      (λ f. let d = past s.closed _ _ (else s.over _ _ f b.1) (λ q. differ q refl) in
-      let l = past s.lost _ _ d.1 (λ q. differ q refl) in
-      read-ends (decode_of (held_of input s.at s.have)) s l.1)
+  unfolding turn_of
+  turn-ends e = ends-at s.next input s e
 
-  turn-fails : s.failed ≡ true → (turn_of input s).turn ≡ Fail
+  turn-fails : s.next ≡ Failed → (turn_of input s).turn ≡ Fail
   unfolding turn_of
   turn-fails e = rw e refl
 
-short-ended : (d : Decoded) (s : State) → d.found ≡ Short → (read_turn d s).turn ≡ Bad → s.ended ≡ true
+short-ended : (d : Found) (s : State) → d ≡ Short → (read_turn d s).turn ≡ Bad → s.ended ≡ true
 short-ended d s e b =
     by-test (holds_b s)
     (λ t. absurd (differ (rw (e, t) at b) refl))
@@ -111,7 +115,7 @@ short-ended d s e b =
 pub turn-laws : TurnLaws
 turn-laws =
     record {
-      whole-taken = λ d s step e. rw e refl;
+      whole-taken = λ d s step size e. rw e refl;
       lay-once = λ n m. (refl, refl);
       call-later = λ step. (refl, refl);
       unknown-bad = λ laid. refl;

@@ -1,11 +1,9 @@
 -- One turn of a walk, by which turn it is.
-use Prim.Native.Nat.{ℕ, suc, ◌+◌, ◌-◌, ◌<◌}
-use mathlib.Core.Bool.{Bool, true, false, not, ◌&&◌, and-true, and-false, false≢true}
-use native.Mathlib.Omega.{arith}
-use lib.Dec.{ltb}
-use borrow.Author.Tests.{ltb-true}
+use Prim.Native.Nat.{ℕ, ◌+◌}
+use mathlib.Core.Bool.{true, false}
+use native.Mathlib.Numerals.{add-one}
 use mathlib.Core.List.{List}
-use mathlib.Core.Path.{◌≡◌, refl, sym, ◌∙◌}
+use mathlib.Core.Path.{◌≡◌, refl, ◌∙◌}
 use Rattle.layout.specs.Entries.{made}
 use Rattle.desk.specs.declared.state.Desk.{Desk}
 use Rattle.recovery.specs.Open.{open_entries, open_reply}
@@ -13,8 +11,9 @@ use Rattle.codec.specs.declared.step.Step.{Step}
 use Rattle.turns.specs.State.{opened_of}
 use Rattle.turns.specs.Output.{Flushed}
 use Rattle.walk.specs.Turn.{aside_of, turn_of}
-use Rattle.walk.specs.Walk.{Heard, Work, image_of, in_state, with_image, called, work_after, desk_turned, Fed, Scene, full_b, next_of, OneTurn, Walked, most_turns}
+use Rattle.walk.specs.Walk.{Heard, Work, image_of, in_state, with_image, called, work_after, desk_turned, Fed, Scene, full_b, next_of, OneTurn, Walked}
 use Rattle.turns.specs.declared.state.State.{State}
+use Rattle.turns.specs.declared.state.Next.TheVariants.{Stopped}
 use Rattle.walk.specs.declared.turn.Turn.TheVariants.{Open, Call, Flush}
 use Rattle.walk.specs.declared.turn.Taken.{Taken}
 use Rattle.walk.proofs.WalkLaws.{nothing_heard, heard_written}
@@ -24,8 +23,8 @@ module _ (len : ℕ) (w : Scene) where
   acted : {t : Taken} → t ≡ next_of w → (h : Heard) {v : Scene} → Fed t.turn t.state w.input h
       → v ≡ record {
         input = h.input;
-        work = work_after len h t.turn t.words w.desk (in_state w.work t.state);
-        desk = desk_turned len t.turn t.words w.desk (in_state w.work t.state);
+        work = work_after len h t.turn w.desk (in_state w.work t.state);
+        desk = desk_turned len t.turn w.desk (in_state w.work t.state);
       }
       → OneTurn len w v
   acted q h g e = (h, rw q at g, rw q at e)
@@ -47,28 +46,18 @@ module _ (len : ℕ) (w : Scene) where
 
     -- a step was made
     pub called-turn : (step : Step) {d : Desk} {v : Work} → t.turn ≡ Call step
-        → v ≡ called len w.desk step t.words (in_state w.work t.state)
-        → d ≡ desk_turned len (Call step) t.words w.desk (in_state w.work t.state)
+        → v ≡ called len w.desk step (in_state w.work t.state)
+        → d ≡ desk_turned len (Call step) w.desk (in_state w.work t.state)
         → OneTurn len w (record { input = w.input; work = v; desk = d })
     called-turn step o e z = acted q (nothing_heard w.input) (rw o refl) (rw (o, e, z))
 
--- some turns were made from u to w, and `left` of the most are left
-pub record Went (len : ℕ) (u w : Scene) (left : ℕ) : Type 0 where
-  pub made : ℕ
-  pub walked : Walked len made u w
-  pub count : made + left ≡ most_turns
-
-pub went-none : {len : ℕ} {w : Scene} {left : ℕ} → left ≡ most_turns → Went len w w left
+-- no turn was made
+pub walked-none : (len : ℕ) (w : Scene) → Walked len 0 w w
 unfolding Walked
-went-none e = record { made = 0; walked = refl; count = omega arith }
+walked-none len w = refl
 
 -- one turn more
-pub went_on : {len k : ℕ} {u v w : Scene} {left : ℕ} → k ≡ len → (0 < left) × (v.work.state.stopped ≡ false) → Went len u v left → OneTurn k v w
-    → Went len u w (left - 1)
+pub walked-on : (len n : ℕ) (u v w : Scene) {k : ℕ} → k ≡ len → Walked len n u v → (v.work.state.next ≡ Stopped → ⊥) → OneTurn k v w
+    → Walked len (n + 1) u w
 unfolding Walked
-went_on {v = v} e l g o = record { made = suc g.made; walked = (v, g.walked, l.1, rw e at o); count = omega (arith, g.count, l.0) }
-
--- the loop goes on with turns left, and ends with the walk stopped or with none left
-pub goes_on : (left : ℕ) (stopped : Bool) → ltb 0 left && not stopped ≡ true → (0 < left) × (stopped ≡ false)
-goes_on left true e = absurd (false≢true (sym (and-false (ltb 0 left)) ∙ e))
-goes_on left false e = (ltb-true 0 left (sym (and-true (ltb 0 left)) ∙ e), refl)
+walked-on len n u v w q g e o = rw add-one (v, g, e, rw q at o)

@@ -1,13 +1,12 @@
 -- A walk, turn by turn (document 01, "The program"): what one turn leaves of the input, the image, the lines, the desk and the state, and
 -- what a whole walk leaves.
-use Rattle.std.specs.Prelude.{ℕ, zero, suc, ◌+◌, ◌-◌, ◌<◌, Bool, true, false, cond, List, ◌++◌, ◌≡◌, ◌⊎◌, length, take, drop, ltb}
+use Rattle.std.specs.Prelude.{ℕ, zero, suc, ◌+◌, ◌-◌, ◌<◌, Bool, cond, List, ◌++◌, ◌≡◌, ◌≢◌, ◌⊎◌, length, take, drop, ltb}
 use Rattle.layout.specs.Entries.{made}
 use Rattle.layout.specs.Told.{lay_told}
 use Rattle.recovery.specs.Open.{open_reply, open_entries}
 use Rattle.recovery.specs.Recover.{recover_reply, recover_entries}
 use Rattle.desk.specs.declared.state.Desk.{Desk}
 use Rattle.feed.specs.Feed.{Refilled}
-use Rattle.codec.specs.Steps.{no_words}
 use Rattle.codec.specs.declared.step.Step.{Step}
 use Rattle.codec.specs.declared.step.Step.TheVariants.{Lay as LayStep}
 use Rattle.lines.specs.Put.{put}
@@ -20,6 +19,7 @@ use Rattle.turns.specs.Make.{image_size, arrives_of, is_cut_b, shown_of, told_of
 use Rattle.turns.specs.Make.{memory_of}
 use Rattle.walk.specs.Turn.{aside_of, turn_of}
 use Rattle.turns.specs.declared.state.State.{State}
+use Rattle.turns.specs.declared.state.Next.TheVariants.{Stopped}
 use Rattle.walk.specs.declared.turn.Turn.{Turn}
 use Rattle.walk.specs.declared.turn.Turn.TheVariants.{Open, Recover, Fill, Call, Lay, Bad, End, Flush, Fail}
 use Rattle.walk.specs.declared.turn.Taken.{Taken}
@@ -64,7 +64,7 @@ recovering len w =
 abbrev pub laying_out : ℕ → ℕ → Work → Work
 laying_out n m w =
     printed (record { memory = memory_of w.memory n m; output = w.output; state = w.state })
-    (step_line w.state.number (LayStep n m) (outcome_of (lay_told (laying w.memory n m))) no_words)
+    (step_line w.state.number (LayStep n m) (outcome_of (lay_told (laying w.memory n m))))
     (laid_of w.state (image_size (length w.memory) n m) (laying w.memory n m))
 
 -- the lines are written out, and a write that fails is told in the next turn
@@ -90,37 +90,37 @@ aside len h Fail w = failing w
 -- a step on the opened store: of its entries those arrive that a cut lets arrive, and its line is told
 abbrev pub calling : Step → Applied → Work → Work → Work
 calling step a w v =
-    printed v (step_line w.state.number step (shown_of a.outcome (is_cut_b w.state step) a.entries) a.words)
+    printed v (step_line w.state.number step (shown_of a.outcome (is_cut_b w.state step) a.entries))
     (told_of w.state step)
 
-abbrev pub called : ℕ → Desk → Step → List ℕ → Work → Work
-called len d step words w =
-    calling step (applied_of (image_of w) d len step words) w
+abbrev pub called : ℕ → Desk → Step → Work → Work
+called len d step w =
+    calling step (applied_of (image_of w) d len step) w
     (with_image w (made (arrives_of w.state step (applied_entries (image_of w) d len step)) (image_of w)))
 
--- the work after a turn, `words` being those of a write
-abbrev pub work_after : ℕ → Heard → Turn → List ℕ → Desk → Work → Work
-work_after len h Open words d w = in_state (with_image w (made (open_entries (image_of w) len) (image_of w))) (opened_of w.state)
-work_after len h Recover words d w = aside len h Recover w
-work_after len h Fill words d w = aside len h Fill w
-work_after len h (Call step) words d w = called len d step words w
-work_after len h (Lay n m) words d w = aside len h (Lay n m) w
-work_after len h Bad words d w = aside len h Bad w
-work_after len h End words d w = aside len h End w
-work_after len h Flush words d w = aside len h Flush w
-work_after len h Fail words d w = aside len h Fail w
+-- the work after a turn
+abbrev pub work_after : ℕ → Heard → Turn → Desk → Work → Work
+work_after len h Open d w = in_state (with_image w (made (open_entries (image_of w) len) (image_of w))) (opened_of w.state)
+work_after len h Recover d w = aside len h Recover w
+work_after len h Fill d w = aside len h Fill w
+work_after len h (Call step) d w = called len d step w
+work_after len h (Lay n m) d w = aside len h (Lay n m) w
+work_after len h Bad d w = aside len h Bad w
+work_after len h End d w = aside len h End w
+work_after len h Flush d w = aside len h Flush w
+work_after len h Fail d w = aside len h Fail w
 
 -- the desk after a turn: an opening gives it, a call changes it
-abbrev pub desk_turned : ℕ → Turn → List ℕ → Desk → Work → Desk
-desk_turned len Open words d w = (open_reply (image_of w) len).desk
-desk_turned len Recover words d w = d
-desk_turned len Fill words d w = d
-desk_turned len (Call step) words d w = (applied_of (image_of w) d len step words).desk
-desk_turned len (Lay n m) words d w = d
-desk_turned len Bad words d w = d
-desk_turned len End words d w = d
-desk_turned len Flush words d w = d
-desk_turned len Fail words d w = d
+abbrev pub desk_turned : ℕ → Turn → Desk → Work → Desk
+desk_turned len Open d w = (open_reply (image_of w) len).desk
+desk_turned len Recover d w = d
+desk_turned len Fill d w = d
+desk_turned len (Call step) d w = (applied_of (image_of w) d len step).desk
+desk_turned len (Lay n m) d w = d
+desk_turned len Bad d w = d
+desk_turned len End d w = d
+desk_turned len Flush d w = d
+desk_turned len Fail d w = d
 
 -- a read asks for a byte at least, keeps the bytes held and brings others behind them; no other turn touches the input
 abbrev pub Fed : Turn → State → List ℕ → Heard → Type 0
@@ -160,8 +160,8 @@ abbrev pub turned : ℕ → Heard → Scene → Scene
 turned len h w =
     record {
       input = h.input;
-      work = work_after len h (next_of w).turn (next_of w).words w.desk (in_state w.work (next_of w).state);
-      desk = desk_turned len (next_of w).turn (next_of w).words w.desk (in_state w.work (next_of w).state);
+      work = work_after len h (next_of w).turn w.desk (in_state w.work (next_of w).state);
+      desk = desk_turned len (next_of w).turn w.desk (in_state w.work (next_of w).state);
     }
 
 -- w' is what a turn leaves of w, with some answer of the operating system
@@ -171,7 +171,7 @@ OneTurn len w w' = (h : Heard) × Fed (next_of w).turn (next_of w).state w.input
 -- w is what n turns leave of u, none of them made once the walk had stopped
 unfoldable pub Walked : ℕ → ℕ → Scene → Scene → Type 0
 Walked len zero u w = u ≡ w
-Walked len (suc n) u w = (v : Scene) × Walked len n u v × (v.work.state.stopped ≡ false) × OneTurn len v w
+Walked len (suc n) u w = (v : Scene) × Walked len n u v × (v.work.state.next ≢ Stopped) × OneTurn len v w
 
 -- the most turns of a walk
 abbrev pub most_turns : ℕ
@@ -179,7 +179,7 @@ most_turns = 18_446_744_073_709_551_614
 
 -- a whole walk: turn after turn, until one stops it or the most turns are made
 abbrev pub WholeWalk : ℕ → Scene → Scene → Type 0
-WholeWalk len u w = (n : ℕ) × Walked len n u w × ((w.work.state.stopped ≡ true) ⊎ (n ≡ most_turns))
+WholeWalk len u w = (n : ℕ) × Walked len n u w × ((w.work.state.next ≡ Stopped) ⊎ (n ≡ most_turns))
 
 -- a whole walk leaves these in its buffers
 abbrev pub Leaves : ℕ → Scene → List ℕ → List ℕ → List ℕ → Type 0

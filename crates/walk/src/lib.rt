@@ -12,10 +12,10 @@ mod turning;
 
 use store::Desk;
 use turning::take_turn;
-use turns::start;
+use turns::{Next, start};
 
 // The most turns of a walk.
-const TURNS: u64 = 18446744073709551614;
+const TURNS: u64 = u64::MAX - 1;
 
 // Walks through a stream: its first `have` bytes are in the input buffer, and unless it has ended, more come from standard input. The lines
 // go to standard output. The first desk may be any: the first step lays and opens, or is bad.
@@ -38,11 +38,12 @@ pub fn run(
 {
     let mut s = start(have, ended);
     let mut desk = first;
-    let mut turns = TURNS;
-    while (0 < turns) & !s.stopped {
+    for _ in 0..TURNS {
+        if s.next == Next::Stopped {
+            break;
+        }
         let t = take_turn(rt, input, image, before, trace, output, desk, s);
         desk = t.desk;
         s = t.state;
-        turns -= 1;
     }
 }

@@ -1,10 +1,11 @@
 // What the next turn of a walk does. The functions here are for use inside this crate.
 ghost use Rattle.std.specs.Prelude.{◌≡◌, ◌+◌, ◌≤◌, ◌<◌, ◌^◌, length};
+ghost use Rattle.codec.specs.Steps.{size_of};
 ghost use Rattle.walk.specs.Bounds.{Comes};
-ghost use Rattle.walk.specs.Turn.{step_turn, found_turn, lacks_b, aside_of, taken_of, turn_of};
+ghost use Rattle.walk.specs.Turn.{step_turn, found_turn, lacks_b, taken_of, turn_of};
 
 use codec::{Found, Step};
-use turns::{State, counted};
+use turns::{Next, State, counted};
 
 // Opens the image, makes a call of recover, reads, makes a step on the opened store, lays the image, puts the line "bad", stops, writes the
 // lines out, or says that they could not be written and stops.
@@ -21,11 +22,10 @@ pub enum Turn {
     Fail,
 }
 
-// The turn, the words of a write, and the state, behind the step that is taken.
+// The turn, and the state behind the step that is taken.
 #[derive(Clone, Copy)]
 pub struct Taken {
     pub turn: Turn,
-    pub words: [u64; 4],
     pub state: State,
 }
 
@@ -33,9 +33,10 @@ pub struct Taken {
 fn step_turn(step: Step, laid: bool) -> Turn
     ensures { result ≡ step_turn step laid }
 {
-    match step {
-        Step::Lay(n, m) => { if laid { Turn::Bad } else { Turn::Lay(n, m) } }
-        _ => { if laid { Turn::Call(step) } else { Turn::Bad } }
+    match (step, laid) {
+        (Step::Lay(n, m), false) => Turn::Lay(n, m),
+        (Step::Lay(..), true) | (_, false) => Turn::Bad,
+        (_, true) => Turn::Call(step),
     }
 }
 
@@ -44,9 +45,8 @@ fn found_turn(found: Found, laid: bool) -> Turn
     ensures { result ≡ found_turn found laid }
 {
     match found {
-        Found::Whole(step) => step_turn(step, laid),
-        Found::Bad => Turn::Bad,
-        Found::Short => Turn::Bad,
+        Found::Whole(step, _) => step_turn(step, laid),
+        Found::Bad | Found::Short => Turn::Bad,
         Found::End => Turn::End,
     }
 }
@@ -55,74 +55,61 @@ fn found_turn(found: Found, laid: bool) -> Turn
 fn lacks(found: Found) -> bool
     ensures { result ≡ lacks_b found }
 {
-    match found {
-        Found::Whole(_) => false,
-        Found::Bad => false,
-        Found::Short => true,
-        Found::End => true,
-    }
+    matches!(found, Found::Short | Found::End)
 }
 
-// A turn that takes no step.
-fn aside(turn: Turn, s: State) -> Taken
-    ensures { result ≡ aside_of turn s }
+// The bytes that a whole step takes; 0 where there is none.
+fn bytes_of(found: Found) -> usize
+    ensures { result ≡ size_of found }
 {
-    Taken {
-        turn: turn,
-        words: [0; 4],
-        state: s,
+    if let Found::Whole(_, size) = found {
+        size
+    } else {
+        0
     }
 }
 
 // Takes the next step and counts it. Without a whole one it writes out the lines held, and then reads where more may come.
+#[tactic(auto, using(crate::proofs::Turns::fill_starved), unfolding(crate::specs::Turn::taken_of))]
 fn take_step(input: &[u8], s: State) -> Taken
     requires { (s.at ≤ s.have) × (s.have ≤ length input.now) × (s.number + 1 < 2 ^ 64) }
     ensures comes { Comes s result }
     ensures value { result ≡ taken_of input.now s }
 {
-    let at = s.at;
-    let have = s.have;
-    let d = codec::decode(&input[at..have]);
-    let bytes = d.size;
-    let words = d.words;
-    let found = d.found;
+    let found = codec::decode(&input[s.at..s.have]);
     let lacking = lacks(found);
-    if lacking & (s.put != 0) {
-        return aside(Turn::Flush, s);
+    if lacking && s.put != 0 {
+        return Taken {
+            turn: Turn::Flush,
+            state: s,
+        };
     }
-    let ended = s.ended;
-    if lacking & !ended {
-        return aside(Turn::Fill, s);
+    if lacking && !s.ended {
+        return Taken {
+            turn: Turn::Fill,
+            state: s,
+        };
     }
-    let t = counted(s, bytes);
     Taken {
-        turn: found_turn(found, t.size != 0),
-        words: words,
-        state: t,
+        turn: found_turn(found, s.size != 0),
+        state: counted(s, bytes_of(found)),
     }
 }
 
-// The next turn, where there is room for a line.
+// The next turn, where there is room for a line. Of a walk that has stopped none is asked for.
+#[tactic(auto, unfolding(crate::specs::Turn::turn_of))]
 pub fn next_turn(input: &[u8], s: State) -> Taken
     requires { (s.at ≤ s.have) × (s.have ≤ length input.now) × (s.number + 1 < 2 ^ 64) }
     ensures comes { Comes s result }
     ensures value { result ≡ turn_of input.now s }
 {
-    if s.failed {
-        return aside(Turn::Fail, s);
-    }
-    let over = s.over;
-    if over & (s.put != 0) {
-        return aside(Turn::Flush, s);
-    }
-    if over {
-        return aside(Turn::End, s);
-    }
-    if s.closed {
-        return aside(Turn::Open, s);
-    }
-    if s.lost {
-        return aside(Turn::Recover, s);
-    }
-    take_step(input, s)
+    let turn = match s.next {
+        Next::Step => return take_step(input, s),
+        Next::Open => Turn::Open,
+        Next::Recover => Turn::Recover,
+        Next::Over | Next::Stopped if s.put != 0 => Turn::Flush,
+        Next::Over | Next::Stopped => Turn::End,
+        Next::Failed => Turn::Fail,
+    };
+    Taken { turn, state: s }
 }

@@ -3,7 +3,7 @@ ghost use Rattle.std.specs.Prelude.{◌≡◌, ◌+◌, ◌-◌, ◌<◌, ◌≤
 ghost use Rattle.walk.specs.Bounds.{Within, Starved};
 ghost use Rattle.walk.specs.Walk.{OtherTurn, scene_of, OneTurn};
 
-use crate::turn::{Turn, next_turn};
+use crate::turn::{Taken, Turn, next_turn};
 use store::Desk;
 use turns::{State, bad, fail, filled, flush, lay_out, make, opened, resume, stopped, tell};
 
@@ -12,15 +12,6 @@ use turns::{State, bad, fail, filled, flush, lay_out, make, opened, resume, stop
 pub struct Turned {
     pub desk: Desk,
     pub state: State,
-}
-
-fn gives(desk: Desk, state: State) -> Turned
-    ensures { result ≡ record { desk = desk; state = state } }
-{
-    Turned {
-        desk: desk,
-        state: state,
-    }
 }
 
 // A turn that leaves the desk as it is.
@@ -46,17 +37,13 @@ fn other_turn(
             let came = feed::refill(rt.stdin(), input, s.at, s.have);
             filled(s, came)
         }
-        Turn::Recover => {
-            let size = s.size;
-            resume(&mut image[..size], trace, output, s)
-        }
+        Turn::Recover => resume(&mut image[..s.size], trace, output, s),
         Turn::Lay(n, m) => lay_out(image, output, s, n, m),
         Turn::Bad => bad(output, s),
         Turn::End => stopped(s),
         Turn::Flush => flush(rt.stdout(), output, s),
         Turn::Fail => fail(rt.stderr(), output, s),
-        Turn::Open => s,
-        Turn::Call(_) => s,
+        Turn::Open | Turn::Call(_) => s,
     }
 }
 
@@ -79,30 +66,27 @@ pub fn take_turn(
         (scene_of input.new image.new output.new result.desk result.state) }
 {
     if output.len() - s.put < 256 {
-        return gives(desk, flush(rt.stdout(), output, s));
+        return Turned {
+            desk,
+            state: flush(rt.stdout(), output, s),
+        };
     }
-    let t = next_turn(input, s);
-    let turn = t.turn;
-    let next = t.state;
+    let Taken { turn, state } = next_turn(input, s);
     match turn {
-        Turn::Open => {
-            let size = next.size;
-            let r = store::open(&mut image[..size], trace);
-            let d = r.desk;
-            gives(d, opened(next))
-        }
+        Turn::Open => Turned {
+            desk: store::open(&mut image[..state.size], trace).desk,
+            state: opened(state),
+        },
         Turn::Call(step) => {
-            let size = next.size;
-            let words = t.words;
-            let a = make(&mut image[..size], before, trace, desk, step, words, next);
-            let d = a.desk;
-            let outcome = a.outcome;
-            let shown = a.words;
-            gives(d, tell(output, next, step, outcome, shown, a.entries))
+            let a = make(&mut image[..state.size], before, trace, desk, step, state);
+            Turned {
+                desk: a.desk,
+                state: tell(output, state, step, a.outcome, a.entries),
+            }
         }
-        _ => {
-            let after = other_turn(rt, input, image, trace, output, next, turn);
-            gives(desk, after)
-        }
+        _ => Turned {
+            desk,
+            state: other_turn(rt, input, image, trace, output, state, turn),
+        },
     }
 }

@@ -3,10 +3,7 @@ use lib.ListN.{length}
 use mathlib.Core.Path.{◌≡◌}
 use Rattle.schedules.proofs.walk_all.Given as goal
 
-abbrev pub invariant-loop-left : goal.invariant-loop-left
-invariant-loop-left l =
+abbrev pub invariant-loop-turn : goal.invariant-loop-turn
+invariant-loop-turn l =
     (256 ≤ length l.output) × (48 ≤ length l.trace) × (length l.input ≡ length l.initial.input) × (length l.image ≡ length l.initial.image) × (length l.before ≡ length l.initial.before) × (length l.trace ≡ length l.initial.trace) ×
     (length l.output ≡ length l.initial.output)
-
-abbrev pub decreases-loop-left : goal.decreases-loop-left
-decreases-loop-left l = l.left

@@ -1,15 +1,9 @@
-use mathlib.Core.Path.{◌≡◌}
-use native.Mathlib.Numerals.{add-one}
-use native.Mathlib.Omega.{arith}
+use Rattle.std.proofs.Common.{◌≡◌, length, add-one}
 use Rattle.layout.proofs.Groups.{stores-append}
 use Rattle.layout.proofs.TraceLaws.{and_then}
 use Rattle.journal.specs.Log.{short_writes}
 use Rattle.journal.proofs.log.put_pairs.Goals as goal
-use Rattle.journal.proofs.Clauses.{did-value}
 use borrow.Author.Rules.{rules}
-
-pub loop-k-init : goal.loop-k-init
-loop-k-init c = (search rules, search rules, search rules, search rules, λ p t d. d)
 
 pub loop-k-preserved : goal.loop-k-preserved
 unfolding short_writes
@@ -17,13 +11,11 @@ loop-k-preserved c = (
   search rules,
   search rules,
   search rules,
-  search rules,
-  λ p t d. rw (add-one, stores-append) (and_then (c.loop-k.invariant.4 p t d) c.put_pair-next.ensures),
+  λ p t d. rw (add-one, stores-append) (and_then (c.loop-k.invariant.3 p t d) c.put_pair-next.ensures),
 )
 
-pub returns : goal.returns
+pub returns-clause-did : goal.returns-clause-did
 unfolding short_writes
-returns c =
-    did-value
-    (let e : c.loop-k.k ≡ c.args.count = omega arith in
-    (rw e at (c.loop-k.invariant.4 _ _ c.put_store-next.ensures), omega arith))
+returns-clause-did c =
+    let e : c.loop-k.k ≡ length c.args.changes.now = search rules in
+    rw e at (c.loop-k.invariant.3 _ _ c.put_store-next.ensures)

@@ -1,9 +1,9 @@
 use native.Mathlib.Omega.{arith}
-use Prim.Native.Nat.{◌+◌, ◌*◌}
-use lib.ListN.{get_or}
+use lib.ListN.{length}
+use Rattle.journal.specs.Copies.{rec_in, words_in}
+use Rattle.journal.specs.Log.{index_in, word_in}
 use Rattle.journal.proofs.LogGroups.{either-few}
 use Rattle.layout.proofs.TraceLaws.{and_then, fenced, did_listed}
-use Rattle.desk.specs.Desk.{no_copy}
 use Rattle.journal.proofs.log.write_log.Goals as goal
 use Rattle.journal.proofs.Clauses.{image-trace}
 
@@ -15,5 +15,5 @@ returns c =
     (and_then (fenced c.put_fence-b.ensures)
     (and_then c.put_store-c.ensures (fenced c.put_fence.ensures))) in (
       d.stores,
-      did_listed d (omega (arith, c.requires, either-few (λ j. get_or a.pairs.now (2 * j) 0) (λ j. get_or a.pairs.now (2 * j + 1) 0) a.k (λ j. (get_or a.copies j no_copy).rec) (λ j. (get_or a.copies j no_copy).words) a.count a.persist (omega (arith, c.requires)))),
+      did_listed d (omega (arith, c.requires, either-few (index_in a.changes.now) (word_in a.changes.now) (length a.changes.now) (rec_in a.copies.now) (words_in a.copies.now) (length a.copies.now) a.persist (omega (arith, c.requires)))),
     ))

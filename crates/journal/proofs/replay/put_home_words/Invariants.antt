@@ -1,18 +1,14 @@
 use mathlib.Core.Path.{◌≡◌}
-use Prim.Native.Nat.{◌≤◌, ◌+◌, ◌*◌, ◌-◌}
-use lib.ListN.{length, get_or}
+use Prim.Native.Nat.{◌*◌}
+use lib.ListN.{length}
 use Rattle.layout.specs.Entries.{stores}
 use Rattle.layout.specs.Trace.{Did}
-use Rattle.journal.specs.Log.{pairs_writes}
+use Rattle.journal.specs.Log.{pairs_writes, index_in, word_in}
 use Rattle.journal.proofs.replay.put_home_words.Given as goal
 
-abbrev pub invariant-loop-j : goal.invariant-loop-j
-invariant-loop-j l =
-    (l.j ≤ l.count)
-    × (l.at ≡ 2 * l.j)
+abbrev pub invariant-loop-index : goal.invariant-loop-index
+invariant-loop-index l =
+    (l.at ≡ 2 * l.index-index)
     × (length l.image ≡ length l.initial.image)
     × (length l.trace ≡ length l.initial.trace)
-    × Did (stores (pairs_writes (λ k. get_or l.pairs (2 * k) 0) (λ k. get_or l.pairs (2 * k + 1) 0) l.j)) 0 0 l.initial.image l.initial.trace l.image l.trace l.at
-
-abbrev pub decreases-loop-j : goal.decreases-loop-j
-decreases-loop-j l = l.count - l.j
+    × Did (stores (pairs_writes (index_in l.changes) (word_in l.changes) l.index-index)) 0 0 l.initial.image l.initial.trace l.image l.trace l.at

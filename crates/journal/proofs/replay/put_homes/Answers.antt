@@ -1,29 +1,19 @@
-use native.Mathlib.Omega.{arith}
-use native.Mathlib.Numerals.{add-one}
-use mathlib.Core.Path.{◌≡◌}
+use Rattle.std.proofs.Common.{add-one}
 use Rattle.layout.proofs.Groups.{stores-append}
 use Rattle.layout.specs.Homes.{homes_writes}
 use Rattle.layout.proofs.TraceLaws.{and_then, did_none}
 use Rattle.journal.proofs.replay.put_homes.Goals as goal
-use Rattle.journal.proofs.Clauses.{did-value}
 use borrow.Author.Rules.{rules}
 
-pub loop-j-init : goal.loop-j-init
+pub loop-c-init : goal.loop-c-init
 unfolding homes_writes
-loop-j-init c = (search rules, search rules, search rules, search rules, did_none)
+loop-c-init c = (search rules, search rules, search rules, did_none)
 
-pub put_home-at-requires : goal.put_home-at-requires
-put_home-at-requires c = let h = c.requires.by_index c.loop-j.j c.loop-j-test.true in (omega arith, omega arith)
-
-pub loop-j-preserved : goal.loop-j-preserved
+pub loop-c-preserved : goal.loop-c-preserved
 unfolding homes_writes
-loop-j-preserved c = (
+loop-c-preserved c = (
   search rules,
   search rules,
   search rules,
-  search rules,
-  rw (add-one, stores-append) (and_then c.loop-j.invariant.4 c.put_home-at.ensures),
+  rw (add-one, stores-append) (and_then c.loop-c.invariant.3 c.put_home-at.ensures),
 )
-
-pub returns : goal.returns
-returns c = did-value (let e : c.loop-j.j ≡ c.args.count = omega arith in (rw e at c.loop-j.invariant.4, omega arith))

@@ -1,17 +1,14 @@
+use Rattle.std.proofs.Common.{refl, ◌∙◌, add-one}
+use Rattle.layout.specs.Image.{persist_at}
 use Rattle.layout.specs.Oldest.{oldest_of}
-use native.Mathlib.Numerals.{add-one}
-use native.Mathlib.Omega.{arith}
-use mathlib.Core.Path.{◌≡◌, refl, ◌∙◌}
+use Rattle.layout.proofs.OldestLaws.{oldest-seen}
 use Rattle.journal.proofs.scan.oldest_log.Goals as goal
-use borrow.Author.Rules.{rules}
 
 pub loop-i-init : goal.loop-i-init
 unfolding oldest_of
-loop-i-init c = (search rules, refl)
+loop-i-init c = refl
 
 pub loop-i-preserved : goal.loop-i-preserved
-unfolding oldest_of
-loop-i-preserved c = (search rules, c.older-best.ensures ∙ rw (c.slot_word-persist.ensures, c.loop-i.invariant.1, add-one))
-
-pub returns : goal.returns
-returns c = let e : c.loop-i.i ≡ c.args.slots = omega arith in rw e at c.loop-i.invariant.1
+loop-i-preserved c =
+    c.older-best.ensures
+    ∙ rw (c.slot_word.ensures, c.loop-i.invariant, add-one c.loop-i.i) (oldest-seen (persist_at c.args.image.now c.args.n) c.loop-i.i)

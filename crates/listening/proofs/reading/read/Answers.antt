@@ -1,18 +1,22 @@
-use mathlib.Core.Path.{sym, ap, ◌∙◌}
-use Rattle.snapshot.specs.Read.{read_refused}
-use Rattle.listening.proofs.ReadLaws.{listen-read-tells, read-heard, read_held}
+use mathlib.Core.Path.{refl, sym, ap, ◌∙◌}
+use Rattle.std.specs.Prelude.{Err}
+use Rattle.std.specs.Result.{result_and}
+use Rattle.layout.specs.declared.refusal.Refusal.TheVariants.{CopiesHeld}
+use Rattle.desk.specs.declared.reply.Reply.{Reply}
+use Rattle.snapshot.specs.declared.seeing.Sight.{Sight}
+use Rattle.snapshot.specs.Told.{read_told}
+use Rattle.listening.proofs.ReadLaws.{listen-read-told, read-heard, read_held}
 use Rattle.listening.proofs.reading.read.Goals as goal
-use Rattle.layout.proofs.Clauses.{reply-told}
 
 pub returns-then-not-holds_copies : goal.returns-then-not-holds_copies
 returns-then-not-holds_copies c =
-    reply-told
-    (listen-read-tells _ _ _ _ (c.read-r.ensures.reply ∙ read-heard _ _ _ _ (sym c.holds_copies.ensures ∙ c.if-not-holds_copies.true)))
+    let a = c.args in
+    rw (c.read-reply.ensures.reply, read-heard a.image.now a.desk a.session a.rec (sym c.holds_copies.ensures ∙ c.if-not-holds_copies.true))
+    (record { reply = refl; told = listen-read-told a.image.now a.desk a.session a.rec })
 
 pub returns : goal.returns
 returns c =
-    reply-told
-    (let a = c.args in
-    listen-read-tells _ _ _ _
-    (ap (read_refused a.desk) c.held_fault.ensures
-    ∙ read_held _ _ _ _ (sym c.holds_copies.ensures ∙ c.if-not-holds_copies.false) _ c.read-r.ensures.reply))
+    let a = c.args in
+    let e = c.and.ensures ∙ ap (λ (x : Reply Sight). result_and x.answer (Err CopiesHeld)) c.read-reply.ensures.reply in
+    let w = read_held a.image.now a.desk a.session a.rec (sym c.holds_copies.ensures ∙ c.if-not-holds_copies.false) e in
+    record { reply = w; told = ap (λ (x : Reply Sight). read_told x.answer) w ∙ listen-read-told a.image.now a.desk a.session a.rec }

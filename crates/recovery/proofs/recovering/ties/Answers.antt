@@ -1,12 +1,17 @@
-use Rattle.recovery.specs.Recover.{slots_of, tied_below, ties_b}
-use Rattle.layout.proofs.Shape.{Shaped, says-shaped}
-use Rattle.layout.specs.Below.{any_below}
-use Rattle.layout.proofs.BelowLaws.{any-more, any-finds}
+use Prim.Native.Nat.{◌*◌, ◌≤◌}
+use mathlib.Core.Path.{◌≡◌, refl, ◌∙◌}
 use native.Mathlib.Omega.{arith}
-use mathlib.Core.Path.{◌≡◌, refl, sym, ◌∙◌}
+use Rattle.std.proofs.Common.{rules}
+use Rattle.std.proofs.iter.Serving.{serving}
+use Rattle.std.proofs.Common.{tests}
+use Rattle.std.proofs.lemmas.Iterator.{YieldsList-from_range}
+use Rattle.std.proofs.lemmas.Iterator.Search.{any_from_yields_List}
+use Rattle.std.specs.List.{list_any, range_with_len}
+use Rattle.layout.proofs.Shape.{Shaped, says-shaped}
+use Rattle.recovery.specs.Recover.{tied_below, ties_b}
+use Rattle.layout.proofs.ListLaws.{any_range}
 use Rattle.recovery.proofs.recovering.ties.Goals as goal
 use Rattle.recovery.proofs.recovering.ties.Goals.{After-word-slots}
-use borrow.Author.Rules.{rules}
 
 -- past check 1, N and M are in range
 in-range : (c : After-word-slots) → Shaped c.args.image.now
@@ -15,27 +20,15 @@ in-range c = (says-shaped _).yes c.requires
 pub overflow_mul-slots : goal.overflow_mul-slots
 overflow_mul-slots c = omega (arith, (in-range c).range)
 
-pub loop-p-init : goal.loop-p-init
-unfolding any_below
-loop-p-init c = (search rules, refl)
-
-pub tied_below-requires : goal.tied_below-requires
-tied_below-requires c = (c.requires, omega (arith, (in-range (goal.at.tied_below-requires c).After-word-slots).range))
-
-pub returns-then-tied_below : goal.returns-then-tied_below
-unfolding ties_b
-returns-then-tied_below c =
-    let i = c.args.image.now in
-    sym (any-finds (tied_below i) (slots_of i) c.loop-p.p (omega arith) (sym c.tied_below.ensures ∙ c.if-tied_below.true))
-
-pub overflow_add-p : goal.overflow_add-p
-overflow_add-p c = omega (arith, (in-range (goal.at.overflow_add-p c).After-word-slots).range)
-
-pub loop-p-preserved : goal.loop-p-preserved
-loop-p-preserved c = (search rules, any-more _ _ c.loop-p.invariant.1 (sym c.tied_below.ensures ∙ c.if-tied_below.false))
+pub any-requires-clause-callable : goal.any-requires-clause-callable
+any-requires-clause-callable c =
+    let s : 2 * c.word-slots.result ≤ 32 = omega (arith, (in-range (goal.at.any-requires-clause-callable c).After-word-slots).range, c.word-slots.ensures) in
+    grind serving
 
 pub returns : goal.returns
 unfolding ties_b
 returns c =
-    let e : c.loop-p.p ≡ slots_of c.args.image.now = omega arith in
-    sym (rw e at c.loop-p.invariant.1)
+    let i = c.args.image.now in
+    let found : c.any.result ≡ list_any (tied_below i) (range_with_len 0 (2 * c.word-slots.result)) =
+    any_from_yields_List (tied_below i) _ _ c.any.result c.any.ensures.ran (YieldsList-from_range 0 (2 * c.word-slots.result) _ refl (omega arith)) (λ x b q k. search (rules, tests)) in
+    found ∙ any_range (tied_below i) (2 * c.word-slots.result) ∙ rw c.word-slots.ensures

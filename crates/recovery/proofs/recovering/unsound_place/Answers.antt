@@ -1,14 +1,24 @@
-use Rattle.recovery.specs.Recover.{slots_of, log_at, unsound_place}
-use Rattle.layout.proofs.Shape.{Shaped, says-shaped}
-use Rattle.journal.specs.Log.{unsound_b}
-use Rattle.layout.specs.Image.{records_of}
-use Rattle.layout.specs.Below.{lowest}
-use Rattle.layout.proofs.BelowLaws.{lowest-more, lowest-finds}
-use native.Mathlib.Omega.{arith}
+use Prim.Native.Nat.{ℕ, ◌*◌, ◌≤◌}
 use mathlib.Core.Path.{◌≡◌, refl, sym, ◌∙◌}
+use native.Mathlib.Omega.{arith}
+use Rattle.std.proofs.Common.{rules}
+use Rattle.std.proofs.iter.Serving.{serving}
+use Rattle.std.proofs.Common.{tests}
+use Rattle.std.specs.Prelude.{Option, Some, None, option_map}
+use Rattle.std.proofs.lemmas.Iterator.{YieldsList-from_range}
+use Rattle.std.proofs.lemmas.Iterator.Search.{find_from_yields_List}
+use Rattle.std.specs.List.{find, range_with_len}
+use Rattle.layout.proofs.Shape.{Shaped, says-shaped}
+use Rattle.layout.specs.Image.{slot_word}
+use Rattle.journal.specs.Log.{unsound_b}
+use Rattle.recovery.specs.Recover.{unsound_place}
+use Rattle.recovery.proofs.Searches.{find-lowest}
 use Rattle.recovery.proofs.recovering.unsound_place.Goals as goal
 use Rattle.recovery.proofs.recovering.unsound_place.Goals.{After-word-slots}
-use borrow.Author.Rules.{rules}
+
+itself : (o : Option ℕ) → option_map (λ x. x) o ≡ o
+itself None = refl
+itself (Some x) = refl
 
 -- past check 1, N and M are in range
 in-range : (c : After-word-slots) → Shaped c.args.image.now
@@ -17,27 +27,17 @@ in-range c = (says-shaped _).yes c.requires
 pub overflow_mul-slots : goal.overflow_mul-slots
 overflow_mul-slots c = omega (arith, (in-range c).range)
 
-pub loop-p-init : goal.loop-p-init
-unfolding lowest
-loop-p-init c = (search rules, refl)
-
-pub unsound-requires : goal.unsound-requires
-unsound-requires c = (omega (arith, (in-range (goal.at.unsound-requires c).After-word-slots).range), omega (arith, (in-range (goal.at.unsound-requires c).After-word-slots).range))
-
-pub returns-then-unsound : goal.returns-then-unsound
-unfolding unsound_place
-returns-then-unsound c =
-    let i = c.args.image.now in
-    sym (lowest-finds (λ q. unsound_b (records_of i) (log_at i q)) (slots_of i) c.loop-p.p (omega arith) c.loop-p.invariant.1 (rw c.word-n.ensures at (sym c.unsound.ensures ∙ c.if-unsound.true)))
-
-pub overflow_add-p : goal.overflow_add-p
-overflow_add-p c = omega (arith, (in-range (goal.at.overflow_add-p c).After-word-slots).range)
-
-pub loop-p-preserved : goal.loop-p-preserved
-loop-p-preserved c = (search rules, lowest-more _ _ c.loop-p.invariant.1 (rw c.word-n.ensures at (sym c.unsound.ensures ∙ c.if-unsound.false)))
+pub find-requires-clause-callable : goal.find-requires-clause-callable
+find-requires-clause-callable c =
+    let r = (in-range (goal.at.find-requires-clause-callable c).After-word-slots).range in
+    let n : c.word-n.result ≤ 256 = omega (arith, r, c.word-n.ensures) in
+    let s : 2 * c.word-slots.result ≤ 32 = omega (arith, r, c.word-slots.ensures) in
+    grind serving
 
 pub returns : goal.returns
 unfolding unsound_place
 returns c =
-    let e : c.loop-p.p ≡ slots_of c.args.image.now = omega arith in
-    rw c.word-slots.ensures (sym (rw e at c.loop-p.invariant.1))
+    let i = c.args.image.now in
+    let found : option_map (λ x. x) c.find.result ≡ find (λ p. unsound_b c.word-n.result (slot_word i c.word-n.result p)) (range_with_len 0 (2 * c.word-slots.result)) =
+    find_from_yields_List (λ p. unsound_b c.word-n.result (slot_word i c.word-n.result p)) _ _ c.find.result c.find.ensures.ran (YieldsList-from_range 0 (2 * c.word-slots.result) _ refl (omega arith)) (λ x b q k. search (rules, tests)) in
+    sym (itself c.find.result) ∙ found ∙ find-lowest _ (2 * c.word-slots.result) ∙ rw (c.word-slots.ensures, c.word-n.ensures)

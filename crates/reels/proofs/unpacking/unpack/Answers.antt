@@ -1,45 +1,48 @@
-use mathlib.Core.Path.{sym, ap, ◌∙◌}
-use borrow.Author.Tests.{eq-eqb, ne_eqb}
-use Rattle.reels.specs.Reel.{reel_fault, speedless_b}
+use mathlib.Core.Path.{◌≡◌, refl, sym, ◌∙◌}
+use Rattle.std.proofs.lemmas.Result.{err_from_is_err_and}
+use Rattle.reels.specs.Reel.{reel_of, reel_fault}
 use Rattle.reels.specs.Unpack.{unpack_reply}
-use Rattle.reels.proofs.Unpacked.{unpack-tells}
+use Rattle.reels.proofs.Unpacked.{checked, unpack-told}
 use Rattle.reels.proofs.unpacking.unpack.Goals as goal
-use Rattle.layout.proofs.Clauses.{reply-told}
 
 pub returns-then-unused : goal.returns-then-unused
 unfolding unpack_reply
 returns-then-unused c =
-    reply-told
-    (unpack-tells c.args.words
-    (rw (c.unpacks.ensures, c.no_reel.ensures, sym c.unused.ensures ∙ c.if-unused.true)))
+    let u = sym c.unused.ensures ∙ c.if-unused.true in
+    let t = unpack-told c.args.words in
+    record { reply = rw u refl; told = rw u at t }
 
-pub returns-then-fault-ne0 : goal.returns-then-fault-ne0
+pub returns-in_err-check_reel : goal.returns-in_err-check_reel
 unfolding unpack_reply
-returns-then-fault-ne0 c =
-    reply-told
-    (let u = sym c.unused.ensures ∙ c.if-unused.false in
-    let q = c.reel_fault-fault.ensures ∙ ap reel_fault c.reel_of-reel.ensures in
-    unpack-tells c.args.words
-    (rw (c.unpacks-then-fault-ne0.ensures, c.no_reel-then-fault-ne0.ensures, u, q, ne_eqb _ 0 (λ z. c.if-fault-ne0.true (q ∙ z)))))
+returns-in_err-check_reel c =
+    let ws = c.args.words in
+    let u = sym c.unused.ensures ∙ c.if-unused.false in
+    let p = err_from_is_err_and c.from_residual.result c.from_residual.ensures.1 in
+    let e = c.in_err-check_reel.ensures in
+    let h = checked (reel_fault (reel_of ws)) _ (rw c.reel_of-reel.ensures at e) in
+    let r : c.from_residual.result ≡ unpack_reply ws = rw (p.1, p.2, h.1, u, h.0) refl in
+    record { reply = r; told = rw r (unpack-told ws) }
 
 pub returns-then-speedless : goal.returns-then-speedless
 unfolding unpack_reply
 returns-then-speedless c =
-    reply-told
-    (let u = sym c.unused.ensures ∙ c.if-unused.false in
-    let r = c.reel_of-reel.ensures in
-    let q = c.reel_fault-fault.ensures ∙ ap reel_fault r in
-    let m = sym (c.speedless.ensures ∙ ap speedless_b r) ∙ c.if-speedless.true in
-    unpack-tells c.args.words
-    (rw (c.unpacks-then-speedless.ensures, r, u, eq-eqb _ 0 (sym q ∙ c.if-fault-ne0.false), m)))
+    let ws = c.args.words in
+    let u = sym c.unused.ensures ∙ c.if-unused.false in
+    let e = c.in_ok-check_reel.ensures in
+    let h = checked (reel_fault (reel_of ws)) _ (rw c.reel_of-reel.ensures at e) in
+    let m = sym c.speedless.ensures ∙ c.if-speedless.true in
+    let n = rw c.reel_of-reel.ensures at m in
+    let t = unpack-told ws in
+    record { reply = rw (c.reel_of-reel.ensures, u, h, n) refl; told = rw c.reel_of-reel.ensures (rw (u, h, n) at t) }
 
 pub returns : goal.returns
 unfolding unpack_reply
 returns c =
-    reply-told
-    (let u = sym c.unused.ensures ∙ c.if-unused.false in
-    let r = c.reel_of-reel.ensures in
-    let q = c.reel_fault-fault.ensures ∙ ap reel_fault r in
-    let m = sym (c.speedless.ensures ∙ ap speedless_b r) ∙ c.if-speedless.false in
-    unpack-tells c.args.words
-    (rw (c.unpacks-2.ensures, r, u, eq-eqb _ 0 (sym q ∙ c.if-fault-ne0.false), m)))
+    let ws = c.args.words in
+    let u = sym c.unused.ensures ∙ c.if-unused.false in
+    let e = c.in_ok-check_reel.ensures in
+    let h = checked (reel_fault (reel_of ws)) _ (rw c.reel_of-reel.ensures at e) in
+    let m = sym c.speedless.ensures ∙ c.if-speedless.false in
+    let n = rw c.reel_of-reel.ensures at m in
+    let t = unpack-told ws in
+    record { reply = rw (c.reel_of-reel.ensures, u, h, n) refl; told = rw c.reel_of-reel.ensures (rw (u, h, n) at t) }

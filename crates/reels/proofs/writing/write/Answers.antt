@@ -1,21 +1,18 @@
-use mathlib.Core.Path.{sym, ◌∙◌}
-use borrow.Author.Tests.{eq-eqb, ne_eqb}
+use mathlib.Core.Path.{refl, sym, ◌∙◌}
 use Rattle.reels.specs.Write.{write_reel_reply, write_reel_said}
+use Rattle.reels.proofs.Unpacked.{packs, packing-told}
 use Rattle.reels.proofs.writing.write.Goals as goal
-use Rattle.layout.proofs.Clauses.{reply-told}
 
-pub returns-then-fault-ne0 : goal.returns-then-fault-ne0
+pub returns-in-Ok : goal.returns-in-Ok
 unfolding write_reel_reply write_reel_said
-returns-then-fault-ne0 c =
-    reply-told
-    (let e = c.pack_fault-fault.ensures in
-    let n = ne_eqb _ 0 (λ z. c.if-fault-ne0.true (e ∙ z)) in
-    (rw (e, n), rw (e, n)))
-
-pub returns : goal.returns
-unfolding write_reel_reply write_reel_said
-returns c =
-    reply-told
-    (let n = eq-eqb _ 0 (sym c.pack_fault-fault.ensures ∙ c.if-fault-ne0.false) in
+returns-in-Ok c =
+    let p = packs c.args.reel _ (sym c.in-Ok.is ∙ c.pack.ensures.reply) in
     let w = c.write.ensures in
-    (rw (n, w.reply, c.words_of.ensures), rw n w.told))
+    record { reply = rw p.0 (rw p.1 at w.reply); told = rw p.0 w.told }
+
+pub returns-in-Err : goal.returns-in-Err
+unfolding write_reel_reply write_reel_said
+returns-in-Err c =
+    let p = packs c.args.reel _ (sym c.in-Err.is ∙ c.pack.ensures.reply) in
+    let t = packing-told c.args.reel p.0 in
+    record { reply = rw (p.0, p.1) refl; told = rw (p.0, p.1, t.0, t.1) refl }

@@ -1,4 +1,3 @@
-use Prim.Native.Nat.{◌≤◌, ◌-◌}
 use mathlib.Core.List.{◌++◌}
 use mathlib.Core.Path.{◌≡◌}
 use lib.ListN.{length, drop}
@@ -6,7 +5,7 @@ use Rattle.sheet.specs.Bytes.{words_in}
 use Rattle.sheet.proofs.bytes.put_words.Given as goal
 
 abbrev pub invariant-loop-i : goal.invariant-loop-i
-invariant-loop-i l = (l.i ≤ l.k) × (length l.image ≡ length l.initial.image) × (l.image ≡ words_in l.i l.bytes ++ drop l.i l.initial.image)
-
-abbrev pub decreases-loop-i : goal.decreases-loop-i
-decreases-loop-i l = l.k - l.i
+invariant-loop-i l = record {
+  size : length l.image ≡ length l.initial.image;
+  so_far : l.image ≡ words_in l.i l.bytes ++ drop l.i l.initial.image;
+}

@@ -1,20 +1,17 @@
-use Rattle.desk.specs.Coherent.{place_has}
-use Rattle.layout.specs.Below.{lowest}
-use Rattle.layout.proofs.BelowLaws.{lowest-more, lowest-finds}
-use native.Mathlib.Omega.{arith}
-use mathlib.Core.Path.{◌≡◌, refl, sym}
+use Rattle.std.proofs.Common.{rules, tests}
+use Rattle.std.proofs.lemmas.Iterator.{YieldsList-from_slice, YieldsList-from_take}
+use Rattle.std.proofs.lemmas.Iterator.Search.{position_from_yields_List}
+use mathlib.Core.Path.{◌≡◌, ◌∙◌}
+use lib.Dec.{eqb}
+use lib.ListN.{take, length}
+use Rattle.std.specs.List.{position}
+use Rattle.snapshot.proofs.OwnPlace.{own-position}
 use Rattle.snapshot.proofs.copies.own_place.Goals as goal
-use borrow.Author.Rules.{rules}
-
-pub loop-j-init : goal.loop-j-init
-unfolding lowest
-loop-j-init c = (search rules, refl)
-
-pub returns-then-j-count : goal.returns-then-j-count
-returns-then-j-count c = sym (lowest-finds (place_has c.args.e c.args.rec) 4 c.loop-j.j (search rules) c.loop-j.invariant.1 c.if-j-count.true)
-
-pub loop-j-preserved : goal.loop-j-preserved
-loop-j-preserved c = (search rules, lowest-more _ _ c.loop-j.invariant.1 c.if-j-count.false)
 
 pub returns : goal.returns
-returns c = let e : c.loop-j.j ≡ 4 = omega arith in sym (rw e at c.loop-j.invariant.1)
+returns c =
+    let e = c.args.e in
+    let four : length e.copies ≡ 4 = search rules in
+    let found : c.position.result ≡ position (λ x. eqb x.rec c.args.rec) (take e.count e.copies) =
+    position_from_yields_List (λ x. eqb x.rec c.args.rec) _ _ c.position.result c.position.ensures.ran (YieldsList-from_take e.count (YieldsList-from_slice e.copies cc) cc) (λ x b q k. search (rules, tests)) in
+    found ∙ own-position e c.args.rec four

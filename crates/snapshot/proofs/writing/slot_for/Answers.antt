@@ -1,8 +1,13 @@
-use borrow.Author.Tests.{eq-eqb, ne_eqb}
+use mathlib.Core.Path.{sym}
+use native.Mathlib.Omega.{arith}
+use Rattle.snapshot.proofs.WriteLaws.{slot-first, slot-same, slot-none}
 use Rattle.snapshot.proofs.writing.slot_for.Goals as goal
 
-pub returns-then-count-eq0 : goal.returns-then-count-eq0
-returns-then-count-eq0 c = simp (eq-eqb _ _ c.if-count-eq0.true)
+pub returns-in-0 : goal.returns-in-0
+returns-in-0 c = rw (c.ok_or.ensures.value, c.empty_slot.ensures, c.in-0.is) (sym (slot-first _ c.args.e.slot))
 
-pub returns-else-count-eq0 : goal.returns-else-count-eq0
-returns-else-count-eq0 c = simp (ne_eqb _ _ c.if-count-eq0.false)
+pub returns-in-1-to-3 : goal.returns-in-1-to-3
+returns-in-1-to-3 c = sym (slot-same c.args.e.count _ c.args.e.slot (omega arith) (omega arith))
+
+pub returns-in_default : goal.returns-in_default
+returns-in_default c = sym (slot-none c.args.e.count _ c.args.e.slot (omega arith))

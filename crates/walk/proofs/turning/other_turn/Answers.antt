@@ -1,5 +1,6 @@
 use Prim.Native.Nat.{◌-◌, ◌<◌}
 use mathlib.Core.Bool.{false}
+use mathlib.Core.Logic.{⊎_elim}
 use mathlib.Core.Path.{refl}
 use native.Mathlib.Omega.{arith}
 use lib.ListN.{length}
@@ -44,7 +45,8 @@ returns-in-Fail-clause-other_turn c =
     rw c.in-Fail.is (nothing_heard c.args.input.now, refl, refl, rw (f.0, f.1))
 
 pub returns-in-Open-clause-other_turn : goal.returns-in-Open-clause-other_turn
-returns-in-Open-clause-other_turn c = rw c.in-Open.is (nothing_heard c.args.input.now, refl, refl, refl)
-
-pub returns-in-Call-clause-other_turn : goal.returns-in-Call-clause-other_turn
-returns-in-Call-clause-other_turn c = rw c.in-Call.is (nothing_heard c.args.input.now, refl, refl, refl)
+returns-in-Open-clause-other_turn c =
+    ⊎_elim
+    (λ e. rw e (nothing_heard c.args.input.now, refl, refl, refl))
+    (λ e. rw e.1 (nothing_heard c.args.input.now, refl, refl, refl))
+    c.in-Open.is

@@ -1,0 +1,38 @@
+use mathlib.Core.Path.{◌≡◌, sym, ◌∙◌}
+use Rattle.std.specs.Prelude.{Result, Ok, Err, OnOk}
+use Rattle.desk.specs.Entering.{image_fault}
+use Rattle.std.proofs.lemmas.Result.{err_from_is_err_and}
+use Rattle.layout.proofs.AnswerLaws.{given-by, refused-too}
+use Rattle.layout.proofs.ChecksLaws.{answered-zero}
+use Rattle.desk.specs.Desk.{active_count}
+use Rattle.desk.proofs.Census.{census-coherent, census-counts}
+use Rattle.desk.proofs.Entered.{Entered, entered}
+use Rattle.desk.proofs.Facts.{says-coherent}
+use Rattle.desk.proofs.state.Desk.entered.Goals as goal
+
+pub returns-in_err-check_entry-clause-answer : goal.returns-in_err-check_entry-clause-answer
+returns-in_err-check_entry-clause-answer c =
+    let p = err_from_is_err_and c.from_residual.result c.from_residual.ensures.1 in
+    let e = rw (c.is_some.ensures, c.census-active.ensures, census-coherent c.args.self.now) at c.in_err-check_entry.ensures in
+    rw (p.1, p.2) (refused-too _ tt (active_count c.args.self.now) e)
+
+-- the checks of this desk have passed
+unrefused : (c : goal.After-ok_or) → image_fault c.args.image.now c.args.self.now c.args.room c.args.session ≡ 0
+unrefused c = (given-by _ tt (rw (c.is_some.ensures, c.census-active.ensures, census-coherent c.args.self.now) at c.in_ok-check_entry.ensures)).0
+
+inside : (c : goal.After-ok_or) → Entered c.args.image.now c.args.self.now c.args.room c.args.session
+inside c = entered _ _ _ _ (unrefused c)
+
+pub returns-clause-answer : goal.returns-clause-answer
+returns-clause-answer c =
+    let d = c.args.self.now in
+    c.ok_or.ensures.value
+    ∙ rw (c.census-active.ensures, census-counts d ((says-coherent d).no (inside c).coherent)) (sym (answered-zero _ _ (Ok (active_count d)) (unrefused c)))
+
+-- what holds, holds of what is answered
+on-ok : {A E P : Type 0} (r : Result A E) → P → OnOk r P
+on-ok (Ok x) p = p
+on-ok (Err e) p = tt
+
+pub returns-clause-inside : goal.returns-clause-inside
+returns-clause-inside c = on-ok c.ok_or.result (inside c).small
