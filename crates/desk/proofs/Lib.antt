@@ -1,5 +1,6 @@
 pub mod Copied
 pub mod Facts
+pub mod Folded
 pub mod Listed
 pub mod Sizes
 pub mod Struck

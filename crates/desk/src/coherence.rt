@@ -41,7 +41,8 @@ impl RecordCopy {
     fn is_zero(&self) -> bool
         ensures { result ≡ zero_copy_b self.now }
     {
-        self.rec == 0 && self.words == [0; 4]
+        let [a, b, c, d] = self.words;
+        (self.rec == 0) & (a == 0) & (b == 0) & (c == 0) & (d == 0)
     }
 
     // Place j of a session with `count` copies: in use, its record is below n and has the mark, which is struck out; else it is zero.
@@ -74,12 +75,7 @@ impl Session {
         ensures { result ≡ quiet self.now }
     {
         let [a, b, c, d] = &self.copies;
-        self.count == 0
-            && self.slot == 0
-            && a.is_zero()
-            && b.is_zero()
-            && c.is_zero()
-            && d.is_zero()
+        (self.count == 0) & (self.slot == 0) & a.is_zero() & b.is_zero() & c.is_zero() & d.is_zero()
     }
 
     // Its own rules and its places, whose marks are struck out: every one, whatever the tests before it said, so `&` and not `&&`.
@@ -108,11 +104,11 @@ impl Session {
     }
 }
 
-// Whether nothing is left.
+// Whether nothing is left. Every place is looked at: a search that stops at the first one left takes a step for each.
 fn all_zero<const N: usize>(left: &[u8; N]) -> bool
     ensures { result ≡ list_all (λ x. x == 0) left.now }
 {
-    left.iter().all(|&x| x == 0)
+    left.iter().fold(true, |zero, &x| zero & (x == 0))
 }
 
 // What is left of the holders, and how many sessions are active, and sealed.

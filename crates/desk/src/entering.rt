@@ -1,5 +1,6 @@
 // The first checks of a session call, in the order of their numbers, as methods of the desk; public for the crates above.
-ghost use Rattle.std.specs.Prelude.{◌≡◌, ◌<◌, OnOk};
+ghost use Rattle.std.specs.Prelude.{true, ◌≡◌, ◌<◌, ltb, OnOk};
+ghost use Rattle.layout.specs.Checks.{first, unless};
 ghost use Rattle.layout.specs.Refusal.{answer_of};
 ghost use Rattle.desk.specs.Desk.{active_count};
 ghost use Rattle.desk.specs.Entering.{entry_fault, desk_fault, image_fault, record_fault};
@@ -36,6 +37,27 @@ pub fn check_entry(
         Ok(())
     } else {
         Err(Refusal::NoSession)
+    }
+}
+
+// The same of a call that takes a record and no trace, and then refusal 5.
+#[tactic(auto, unfolding(layout::specs::Checks::answered, layout::specs::Refusal::cause))]
+pub fn check_record(
+    image: &[u64],
+    coherent: bool,
+    clock: u64,
+    n: u64,
+    m: u64,
+    session: u64,
+    rec: u64,
+) -> Result<(), Refusal>
+    ensures { result ≡ answer_of (first (entry_fault image.now coherent clock n m true session) (unless (ltb rec n) 5)) tt }
+{
+    check_entry(image, coherent, clock, n, m, true, session)?;
+    if rec < n {
+        Ok(())
+    } else {
+        Err(Refusal::NoRecord)
     }
 }
 
@@ -78,11 +100,9 @@ impl Desk {
         ensures answer { result ≡ answer_of (record_fault image.now self.now session rec) (active_count self.now) }
         ensures inside { OnOk result ((session < 16) × (rec < 256)) }
     {
-        let active = self.entered(image, true, session)?;
-        if rec < self.n {
-            Ok(active)
-        } else {
-            Err(Refusal::NoRecord)
-        }
+        let active = self.census();
+        let Desk { clock, n, m, .. } = *self;
+        check_record(image, active.is_some(), clock, n, m, session, rec)?;
+        active.ok_or(Refusal::Incoherent)
     }
 }

@@ -13,7 +13,7 @@ mod session;
 mod state;
 
 pub use coherence::LIMIT;
-pub use entering::check_entry;
+pub use entering::{check_entry, check_record};
 pub use reply::{Reply, StoringReply};
 pub use session::{leave, unmark};
 pub use state::{Desk, Phase, RecordCopy, Session};

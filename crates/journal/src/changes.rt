@@ -25,7 +25,7 @@ fn next_copy(copies: &[RecordCopy], floor: u64) -> Option<RecordCopy>
 }
 
 // A change of a home word: its index, and the new word.
-pub(crate) type Change = (u64, u64);
+pub type Change = (u64, u64);
 
 // Some changes. gather stops once they are too many for a short log, so there are at most 9 before the last copy is looked at, and its
 // four.
@@ -44,13 +44,16 @@ impl Model for Changes {
 }
 
 impl Changes {
-    // None.
-    fn new() -> Self
-        ensures { result ≡ [] }
+    // These, in order.
+    pub fn of(list: &[Change]) -> Self
+        requires { length list.now ≤ 13 }
+        ensures { result ≡ list.now }
     {
+        let mut all = [(0, 0); 13];
+        all[..list.len()].copy_from_slice(list);
         Changes {
-            list: [(0, 0); 13],
-            count: 0,
+            list: all,
+            count: list.len(),
         }
     }
 
@@ -104,7 +107,7 @@ pub fn gather(image: &[u64], n: u64, copies: &[RecordCopy]) -> Changes
     ensures { Gathered (changes_below (home_words image.now) (rec_in copies.now) (words_in copies.now) (length copies.now) n)
         (length copies.now) result }
 {
-    let mut changes = Changes::new();
+    let mut changes = Changes::of(&[]);
     let mut floor = 0;
     while floor < n && changes.fit(copies.len()) {
         let Some(c) = next_copy(copies, floor) else {

@@ -11,7 +11,7 @@ mod replay;
 mod scan;
 mod slot;
 
-pub use changes::{Changes, gather};
+pub use changes::{Change, Changes, gather};
 pub use lengths::{replay_length, seal_length, settle_length};
 pub use log::write_log;
 pub use logs::{tied, unsound};

@@ -3,6 +3,7 @@ use Prim.Native.Nat.{ℕ, zero, suc, ◌+◌, ◌-◌, ◌*◌, ◌<◌, ◌≤�
 use mathlib.Core.Path.{◌≡◌, refl, sym, ap, ◌∙◌, subst}
 use mathlib.Core.Bool.{Bool, true, false, ◌&&◌, cond, false≢true}
 use mathlib.Core.List.{List, [], ◌∷◌}
+use mathlib.Core.Logic.{◌⊎◌, inl, inr}
 use native.Mathlib.Omega.{arith}
 use lib.ListN.{length, get_or, length-drop}
 use lib.Seq.{get_or-drop}
@@ -15,24 +16,24 @@ use Rattle.layout.proofs.Counts.{by-same, count_same}
 use Rattle.layout.proofs.Says.{Says, says_ne, says_any, says-not, by-test}
 use Rattle.layout.proofs.Shape.{says-shaped}
 use Rattle.layout.proofs.ToldLaws.{known}
-use Rattle.std.specs.Prelude.{Ok, Option, Some, None}
+use Rattle.std.specs.Prelude.{Ok, Some}
 use Rattle.report.specs.declared.summing.Totals.{Totals}
 use Rattle.layout.proofs.ChecksLaws.{answered-zero, answered-not}
 use Rattle.reels.specs.Reel.{reel_of, unused_b, reel_fault}
 use Rattle.reels.proofs.Faults.{both, denied, read-faults}
 use Rattle.reels.proofs.Good.{good-known, not-unused}
 use Rattle.report.specs.Laws.{Good, OnCarrier, NotAReel, record_at, Right, Clean, line_by, no, ReportLaws}
-use Rattle.report.specs.Lines.{line_of, change_of}
+use Rattle.report.specs.Lines.{line_of, change_of, updated, begun}
 use Rattle.report.specs.Report.{reel_b, on_b, bad_b, sum_below, count_to, seconds_to, seconds_at, count_of, seconds_of, report_fault, table_to, reported, refused_by, filled, report_reply, report_said}
 use Rattle.report.specs.Told.{refused, report, report_told}
-use Rattle.report.specs.Changes.{kind_of, change_at}
+use Rattle.report.specs.Changes.{kind_of, afresh, change_at}
 use Rattle.report.specs.declared.line.CarrierLine.{CarrierLine}
 use Rattle.report.specs.declared.line.Change.{Change}
 use Rattle.report.proofs.Checks.{passed, refused-table, filled-table}
 use Rattle.report.proofs.Counted.{unused-no-reel, on_test, reel-test, bad-test, unused-test, carrier-known, kind-most}
 use Rattle.report.proofs.Sums.{sum_same, seconds-most, counted, left_out}
-use Rattle.report.proofs.Changed.{change-reel, change-none}
-use Rattle.report.proofs.Table.{one-record}
+use Rattle.report.proofs.Changed.{change-reel, change-none, by-reel}
+use Rattle.report.proofs.Table.{begun_more, one-record}
 
 -- ---- which records count as what
 module _ (a b c d : ℕ) where
@@ -237,6 +238,13 @@ module _ (img : List ℕ) where
   filled-said room z = answered-zero (report_fault img room) refused _ z
 
 -- ---- the changes
+begun-lines : (ls : List CarrierLine) → 3 ≤ length ls → begun 3 ls ≡ updated (updated (updated ls (afresh 0)) (afresh 1)) (afresh 2)
+begun-lines ls h =
+    let a = begun_more 0 ls h (omega arith) in
+    let b = begun_more 1 ls h (omega arith) in
+    let c = begun_more 2 ls h (omega arith) in
+    sym (ap (λ (x : List CarrierLine). updated (updated x (afresh 1)) (afresh 2)) a ∙ ap (λ (x : List CarrierLine). updated x (afresh 2)) b ∙ c)
+
 module _ (img : List ℕ) (n : ℕ) where
   reel-change : (b : ℕ) → on_b b (home_words img n) ≡ true
       → change_at img n ≡ Some (change_of (b - 1) 1 1 (reel_of (home_words img n)).seconds)
@@ -244,19 +252,11 @@ module _ (img : List ℕ) (n : ℕ) where
       let p = both (reel_b (home_words img n)) (eqb (reel_of (home_words img n)).carrier b) e in
       change-reel img n p.0 ∙ ap (λ (k : ℕ). Some (change_of (k - 1) 1 1 (reel_of (home_words img n)).seconds)) (eqb-true (reel_of (home_words img n)).carrier b p.1)
 
-  first_three : (c : Change) → change_at img n ≡ Some c → c.line < 3
-  first_three c e =
-      by-test (reel_b (home_words img n))
-      (λ y.
-      let q : change_of ((reel_of (home_words img n)).carrier - 1) 1 1 (reel_of (home_words img n)).seconds ≡ c = some-same (sym (change-reel img n y) ∙ e) in
-      subst (λ (x : Change). x.line < 3) q (omega (arith, carrier-known (home_words img n) y)))
-      (λ f. none-some (sym (change-none img n f) ∙ e))
-    where
-      some-same : {x y : Change} → ◌≡◌ {A = Option Change} (Some x) (Some y) → x ≡ y
-      some-same e = cc
-
-      none-some : {x : Change} {P : Type 0} → ◌≡◌ {A = Option Change} None (Some x) → P
-      none-some e = cc
+  first_three : (c : Change) → (change_at img n ≡ Some c) ⊎ ((i : ℕ) × (i < 3) × (c ≡ afresh i)) → c.line < 3
+  first_three c (inl e) =
+      let k = by-reel img n c e in
+      subst (λ (x : Change). x.line < 3) (sym k.1) (omega (arith, carrier-known (home_words img n) k.0))
+  first_three c (inr (i, l, e)) = subst (λ (x : Change). x.line < 3) (sym e) l
 
 number-told : (k : ℕ) → 1 ≤ k → k ≤ 20 → report_told (no k) ≡ refused k
 number-told zero l h = absurd (omega arith)
@@ -292,6 +292,7 @@ report-laws = record {
   filled-told = λ a b c d. refl;
   refused-said = refused-said;
   filled-said = filled-said;
+  begun-lines = begun-lines;
   one-record = one-record;
   reel-change = reel-change;
   other-change = change-none;

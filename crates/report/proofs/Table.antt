@@ -1,25 +1,25 @@
 -- The table begun afresh, and over so many records: each change can be made, and makes the table of one record more.
-use Prim.Native.Nat.{ℕ, zero, suc, ◌+◌, ◌-◌, ◌≤◌}
+use Prim.Native.Nat.{ℕ, zero, suc, ◌+◌, ◌-◌, ◌*◌, ◌≤◌, ◌<◌}
+use Rattle.std.specs.Prelude.{Some, None}
 use mathlib.Core.Path.{◌≡◌, refl, sym, ap, ◌∙◌, subst}
 use mathlib.Core.Bool.{Bool, true, false, ◌&&◌, cond}
-use mathlib.Core.List.{List, ◌∷◌}
+use mathlib.Core.List.{List, [], ◌∷◌}
 use native.Mathlib.Omega.{arith}
-use lib.ListN.{drop}
+use lib.ListN.{length, drop}
 use lib.Dec.{eqb}
 use Rattle.layout.specs.Below.{count_below}
 use Rattle.layout.specs.Image.{home_words}
 use Rattle.layout.proofs.BelowLaws.{count_most}
 use Rattle.layout.proofs.Says.{by-test}
 use Rattle.reels.specs.Reel.{reel_of}
-use Rattle.reels.specs.declared.reel.Reel.{Reel}
 use Rattle.reels.proofs.Faults.{both}
 use Rattle.report.specs.Lines.{line_of, change_of, updated, begun, CanUpdate}
 use Rattle.report.specs.Report.{reel_b, on_b, sum_below, count_to, seconds_to, table_to}
-use Rattle.report.specs.Changes.{counted_as, change_at, changed}
-use Rattle.report.specs.declared.counting.RecordKind.TheVariants.{Reel as OnReel}
+use Rattle.report.specs.Changes.{afresh, change_at, changed}
 use Rattle.report.specs.declared.line.CarrierLine.{CarrierLine}
-use Rattle.report.proofs.Changed.{change-reel, change-none}
-use Rattle.report.proofs.Counted.{carrier-known, reel-seconds, as-reel, no-reel}
+use Rattle.report.specs.declared.line.Change.{Change}
+use Rattle.report.proofs.Changed.{change-reel, change-none, by-reel, by-none}
+use Rattle.report.proofs.Counted.{carrier-known, reel-seconds}
 use Rattle.report.proofs.Sums.{seconds-most}
 
 three : {a b c d e f a' b' c' d' e' f' : ℕ} (rest : List CarrierLine) → a ≡ a' → b ≡ b' → c ≡ c' → d ≡ d' → e ≡ e' → f ≡ f'
@@ -27,6 +27,18 @@ three : {a b c d e f a' b' c' d' e' f' : ℕ} (rest : List CarrierLine) → a �
 three rest p q r s t u = rw (p, q, r, s, t, u) refl
 
 -- ---- lines that begin afresh
+nothing : (x : ℕ) → x * 0 + 0 ≡ 0
+nothing x = omega arith
+
+pub begun_more : (line : ℕ) (ls : List CarrierLine) → 3 ≤ length ls → line < 3 → updated (begun line ls) (afresh line) ≡ begun (line + 1) ls
+begun_more line [] h l = absurd (omega (arith, h))
+begun_more line (a ∷ []) h l = absurd (omega (arith, h))
+begun_more line (a ∷ b ∷ []) h l = absurd (omega (arith, h))
+begun_more zero (a ∷ b ∷ c ∷ rest) h l = rw (nothing a.reels, nothing a.seconds) refl
+begun_more (suc zero) (a ∷ b ∷ c ∷ rest) h l = rw (nothing b.reels, nothing b.seconds) refl
+begun_more (suc (suc zero)) (a ∷ b ∷ c ∷ rest) h l = rw (nothing c.reels, nothing c.seconds) refl
+begun_more (suc (suc (suc k))) (a ∷ b ∷ c ∷ rest) h l = absurd (omega (arith, l))
+
 pub begun_table : (img : List ℕ) (ls : List CarrierLine) → begun 3 ls ≡ table_to img 0 ls
 unfolding count_below sum_below
 begun_table img ls = refl
@@ -61,9 +73,6 @@ can-step (suc (suc (suc (suc k)))) s a b c d e f rest low high h p q r t u v = a
 
 on-reels : (c : ℕ) (ws : List ℕ) → on_b c ws ≡ true → reel_b ws ≡ true
 on-reels c ws e = (both (reel_b ws) (eqb (reel_of ws).carrier c) e).0
-
-pub reel_carrier : (ws : List ℕ) (r : Reel) → counted_as ws ≡ OnReel r → 1 ≤ r.carrier
-reel_carrier ws r e = let k = as-reel ws r e in subst (λ (x : Reel). 1 ≤ x.carrier) (sym k.0) (carrier-known ws k.2).0
 
 module _ (img : List ℕ) (n : ℕ) (ls : List CarrierLine) where
   abbrev ws : List ℕ
@@ -100,19 +109,15 @@ module _ (img : List ℕ) (n : ℕ) (ls : List CarrierLine) where
       seconds : (c : ℕ) → seconds_to (on_b c) img n ≤ 92159744
       seconds c = omega (arith, l, seconds-most (on_b c) (on-reels c) img n)
 
-  -- by what the record counts as
-  pub reel_added : (r : Reel) → counted_as ws ≡ OnReel r → table_to img (n + 1) ls ≡ updated (table_to img n ls) (change_of (r.carrier - 1) 1 1 r.seconds)
-  reel_added r e =
-      let k = as-reel ws r e in
-      with-reel k.2 ∙ ap (λ (x : Reel). updated (table_to img n ls) (change_of (x.carrier - 1) 1 1 x.seconds)) (sym k.0)
+  -- by the change that the record makes
+  pub some_change : (c : Change) → change_at img n ≡ Some c → table_to img (n + 1) ls ≡ updated (table_to img n ls) c
+  some_change c e = let k = by-reel img n c e in with-reel k.0 ∙ ap (updated (table_to img n ls)) (sym k.1)
 
-  pub reel_can : (r : Reel) → counted_as ws ≡ OnReel r → n ≤ 256 → CanUpdate (table_to img n ls) (change_of (r.carrier - 1) 1 1 r.seconds)
-  reel_can r e l =
-      let k = as-reel ws r e in
-      subst (λ (x : Reel). CanUpdate (table_to img n ls) (change_of (x.carrier - 1) 1 1 x.seconds)) (sym k.0) (can-add l k.2)
+  pub can_change : (c : Change) → change_at img n ≡ Some c → n ≤ 256 → CanUpdate (table_to img n ls) c
+  can_change c e l = let k = by-reel img n c e in subst (CanUpdate (table_to img n ls)) (sym k.1) (can-add l k.0)
 
-  pub other_added : ((r : Reel) → counted_as ws ≡ OnReel r → ⊥) → table_to img (n + 1) ls ≡ table_to img n ls
-  other_added h = without (no-reel ws h)
+  pub no_change : change_at img n ≡ None → table_to img (n + 1) ls ≡ table_to img n ls
+  no_change e = without (by-none img n e)
 
 pub one-record : (img : List ℕ) (n : ℕ) (ls : List CarrierLine) → table_to img (n + 1) ls ≡ changed (table_to img n ls) (change_at img n)
 one-record img n ls =

@@ -17,6 +17,10 @@ kind_of ws = cond (unused_b ws) 0 (cond (reel_b ws) (reel_of ws).carrier 4)
 unfoldable pub counted_as : List ℕ → RecordKind
 counted_as ws = cond (unused_b ws) Unused (cond (reel_b ws) (OnReel (reel_of ws)) Bad)
 
+-- a line begins afresh: it keeps nothing of what it had
+abbrev pub afresh : ℕ → Change
+afresh line = change_of line 0 0 0
+
 -- the change that record r makes: one reel more with its seconds in its carrier's line; none where it is no reel
 unfoldable pub change_at : List ℕ → ℕ → Option Change
 change_at img r =

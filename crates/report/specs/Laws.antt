@@ -1,12 +1,13 @@
 -- The laws of the report, each in plain words: which records count as what, the sums, the checks, the table, what is answered and told.
-use Rattle.std.specs.Prelude.{ℕ, ◌+◌, ◌-◌, ◌*◌, ◌<◌, ◌≤◌, ◌≡◌, Bool, true, false, List, [], ◌∷◌, length, get_or, Ok, Err, Some, None}
+use Rattle.std.specs.Prelude.{ℕ, ◌+◌, ◌-◌, ◌*◌, ◌<◌, ◌≤◌, ◌≡◌, ◌⊎◌, Bool, true, false, List, [], ◌∷◌, length, get_or, Ok, Err, Some, None}
 use Rattle.layout.specs.Refusal.{Answer, cause, number_of}
 use Rattle.layout.specs.declared.refusal.Refusal.{Refusal}
 use Rattle.reels.specs.Laws.{Shelved, Takes}
 use Rattle.reels.specs.Reel.{unused_b}
 use Rattle.report.specs.Report.{reel_b, on_b, bad_b, count_to, seconds_to, count_of, seconds_of, report_fault, table_to, reported, report_reply, report_said}
 use Rattle.report.specs.Told.{refused, report, report_told}
-use Rattle.report.specs.Changes.{change_at, changed}
+use Rattle.report.specs.Lines.{updated, begun}
+use Rattle.report.specs.Changes.{afresh, change_at, changed}
 use Rattle.report.specs.declared.line.CarrierLine.{CarrierLine}
 use Rattle.report.specs.declared.line.Change.{Change}
 use Rattle.report.specs.declared.summing.Totals.{Totals}
@@ -103,10 +104,12 @@ pub record ReportLaws : Type 0 where
   pub refused-said : (img : List ℕ) (room : ℕ) → (report_fault img room ≡ 0 → ⊥) → report_said img room ≡ refused (report_fault img room)
   pub filled-said : (img : List ℕ) (room : ℕ) → report_fault img room ≡ 0
       → report_said img room ≡ report (count_of reel_b img) (seconds_of reel_b img) (count_of bad_b img) (count_of unused_b img)
+  -- three changes begin the lines afresh
+  pub begun-lines : (ls : List CarrierLine) → 3 ≤ length ls → begun 3 ls ≡ updated (updated (updated ls (afresh 0)) (afresh 1)) (afresh 2)
   -- with one more record the table is changed by that record's change; a reel's is one of its carrier's line, by 1 and its own seconds; other
-  -- records make none; no change is to a line past the third
+  -- records make none; neither these changes nor the three before them are to a line past the third
   pub one-record : (img : List ℕ) (n : ℕ) (ls : List CarrierLine) → table_to img (n + 1) ls ≡ changed (table_to img n ls) (change_at img n)
   pub reel-change : (img : List ℕ) (n b : ℕ) → on_b b (record_at img n) ≡ true
       → change_at img n ≡ Some (record { line = b - 1; keep = 1; reels = 1; seconds = at img (4 + 4 * n + 3) })
   pub other-change : (img : List ℕ) (n : ℕ) → reel_b (record_at img n) ≡ false → change_at img n ≡ None
-  pub first_three : (img : List ℕ) (n : ℕ) (c : Change) → change_at img n ≡ Some c → c.line < 3
+  pub first_three : (img : List ℕ) (n : ℕ) (c : Change) → (change_at img n ≡ Some c) ⊎ ((i : ℕ) × (i < 3) × (c ≡ afresh i)) → c.line < 3

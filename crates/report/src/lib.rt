@@ -2,6 +2,7 @@
 // the reel library, which says what is good to read.
 #![tactic(auto)]
 
+mod changing;
 mod checking;
 mod counting;
 mod filling;

@@ -4,7 +4,12 @@ ghost use Rattle.layout.specs.Entries.{made, listed};
 ghost use Rattle.layout.specs.Told.{Told, tells};
 ghost use Rattle.snapshot.specs.Told.{sight_told};
 ghost use Rattle.commit.specs.Told.{sealed_told, wait_told, slot_told};
-ghost use Rattle.steps.specs.Apply.{outcome_of, gives_of, ShowsAs, applied_of, applied_entries};
+ghost use Rattle.desk.specs.Publish.{publish_entries};
+ghost use Rattle.commit.specs.Finish.{finish_entries};
+ghost use Rattle.commit.specs.Settle.{settle_entries};
+ghost use Rattle.commit.specs.Reclaim.{reclaim_entries};
+ghost use Rattle.steps.specs.Apply.{outcome_of, gives_of, ShowsAs, begin_applied, read_applied, write_applied, finish_applied, publish_applied, settle_applied};
+ghost use Rattle.steps.specs.Apply.{reclaim_applied, abandon_applied, applied_of, applied_entries};
 
 use codec::Step;
 use lines::Outcome;
@@ -78,6 +83,74 @@ fn reclaimed(slot: Reclaimed) -> Outcome
     }
 }
 
+// What each call gives. They are functions of their own, since a function pays at its entry for the replies of all its arms.
+fn begin(desk: Desk, session: u64) -> Applied
+    ensures { result ≡ begin_applied desk session }
+{
+    Applied::of(desk.begin(session), Outcome::Start)
+}
+
+fn read(image: &[u64], desk: Desk, session: u64, rec: u64) -> Applied
+    ensures { result ≡ read_applied image.now desk session rec }
+{
+    Applied::of(store::read(image, desk, session, rec), seen)
+}
+
+fn write(image: &[u64], desk: Desk, session: u64, rec: u64, words: [u64; 4]) -> Applied
+    ensures { result ≡ write_applied image.now desk session rec words }
+{
+    Applied::of(
+        store::write(image, desk, session, rec, words),
+        |()| Outcome::Ok,
+    )
+}
+
+fn finish(image: &mut [u64], desk: Desk, trace: &mut [u64], session: u64) -> Applied
+    ensures reply { result ≡ finish_applied image.old desk (length trace.old) session }
+    ensures image { image.new
+        ≡ made (finish_entries image.old desk (length trace.old) session) image.old }
+    ensures trace { trace.new
+        ≡ listed (finish_entries image.old desk (length trace.old) session) trace.old }
+{
+    Applied::storing(store::finish(image, desk, trace, session), sealed)
+}
+
+fn publish(image: &mut [u64], desk: Desk, trace: &mut [u64], session: u64) -> Applied
+    ensures reply { result ≡ publish_applied image.old desk (length trace.old) session }
+    ensures image { image.new
+        ≡ made (publish_entries image.old desk (length trace.old) session) image.old }
+    ensures trace { trace.new
+        ≡ listed (publish_entries image.old desk (length trace.old) session) trace.old }
+{
+    Applied::storing(desk.publish(image, trace, session), Outcome::End)
+}
+
+fn settle(image: &mut [u64], desk: Desk, trace: &mut [u64], session: u64) -> Applied
+    ensures reply { result ≡ settle_applied image.old desk (length trace.old) session }
+    ensures image { image.new
+        ≡ made (settle_entries image.old desk (length trace.old) session) image.old }
+    ensures trace { trace.new
+        ≡ listed (settle_entries image.old desk (length trace.old) session) trace.old }
+{
+    Applied::storing(store::settle(image, desk, trace, session), settled)
+}
+
+fn reclaim(image: &mut [u64], desk: Desk, trace: &mut [u64], session: u64) -> Applied
+    ensures reply { result ≡ reclaim_applied image.old desk (length trace.old) session }
+    ensures image { image.new
+        ≡ made (reclaim_entries image.old desk (length trace.old) session) image.old }
+    ensures trace { trace.new
+        ≡ listed (reclaim_entries image.old desk (length trace.old) session) trace.old }
+{
+    Applied::storing(store::reclaim(image, desk, trace, session), reclaimed)
+}
+
+fn abandon(desk: Desk, session: u64) -> Applied
+    ensures { result ≡ abandon_applied desk session }
+{
+    Applied::of(desk.abandon(session), |()| Outcome::Ok)
+}
+
 // Makes the session call of a step. A step that lays or cuts changes nothing.
 pub fn apply(image: &mut [u64], desk: Desk, trace: &mut [u64], step: Step) -> Applied
     ensures reply { result ≡ applied_of image.old desk (length trace.old) step }
@@ -92,15 +165,13 @@ pub fn apply(image: &mut [u64], desk: Desk, trace: &mut [u64], step: Step) -> Ap
             entries: 0,
             desk,
         },
-        Step::Begin(s) => Applied::of(desk.begin(s), Outcome::Start),
-        Step::Read(s, rec) => Applied::of(store::read(image, desk, s, rec), seen),
-        Step::Write(s, rec, words) => {
-            Applied::of(store::write(image, desk, s, rec, words), |()| Outcome::Ok)
-        }
-        Step::Finish(s) => Applied::storing(store::finish(image, desk, trace, s), sealed),
-        Step::Publish(s) => Applied::storing(desk.publish(image, trace, s), Outcome::End),
-        Step::Settle(s) => Applied::storing(store::settle(image, desk, trace, s), settled),
-        Step::Reclaim(s) => Applied::storing(store::reclaim(image, desk, trace, s), reclaimed),
-        Step::Abandon(s) => Applied::of(desk.abandon(s), |()| Outcome::Ok),
+        Step::Begin(s) => begin(desk, s),
+        Step::Read(s, rec) => read(image, desk, s, rec),
+        Step::Write(s, rec, words) => write(image, desk, s, rec, words),
+        Step::Finish(s) => finish(image, desk, trace, s),
+        Step::Publish(s) => publish(image, desk, trace, s),
+        Step::Settle(s) => settle(image, desk, trace, s),
+        Step::Reclaim(s) => reclaim(image, desk, trace, s),
+        Step::Abandon(s) => abandon(desk, s),
     }
 }

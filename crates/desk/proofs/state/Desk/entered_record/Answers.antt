@@ -1,37 +1,38 @@
-use mathlib.Core.Bool.{true}
-use mathlib.Core.Path.{sym, ap, ◌∙◌}
-use native.Mathlib.Omega.{arith}
-use borrow.Author.Tests.{lt-ltb, le-ltb}
-use Rattle.std.specs.Prelude.{Ok}
+use mathlib.Core.Path.{◌≡◌, sym, ◌∙◌}
+use Rattle.std.specs.Prelude.{Result, Ok, Err, OnOk}
 use Rattle.std.proofs.lemmas.Result.{err_from_is_err_and}
-use Rattle.layout.proofs.AnswerLaws.{given-by, hands-on, goes-on}
-use Rattle.layout.specs.Checks.{answered}
-use Rattle.layout.specs.Refusal.{cause}
+use Rattle.layout.proofs.AnswerLaws.{given-by, refused-too}
+use Rattle.layout.proofs.ChecksLaws.{answered-zero}
 use Rattle.desk.specs.Desk.{active_count}
-use Rattle.desk.specs.Entering.{image_fault}
-use Rattle.desk.proofs.Entered.{entered}
+use Rattle.desk.specs.Entering.{record_fault}
+use Rattle.desk.proofs.Census.{census-coherent, census-counts}
+use Rattle.desk.proofs.Facts.{says-coherent}
+use Rattle.desk.proofs.RecordEntered.{RecordEntered, record-entered}
 use Rattle.desk.proofs.state.Desk.entered_record.Goals as goal
 
-pub returns-in_err-active-clause-answer : goal.returns-in_err-active-clause-answer
-returns-in_err-active-clause-answer c =
-    let n = active_count c.args.self.now in
+pub returns-in_err-check_record-clause-answer : goal.returns-in_err-check_record-clause-answer
+returns-in_err-check_record-clause-answer c =
     let p = err_from_is_err_and c.from_residual.result c.from_residual.ensures.1 in
-    rw (p.1, p.2) (hands-on (image_fault c.args.image.now c.args.self.now true c.args.session) _ n n c.in_err-active.ensures.answer)
+    let e = rw (c.is_some.ensures, c.census-active.ensures, census-coherent c.args.self.now) at c.in_err-check_record.ensures in
+    rw (p.1, p.2) (refused-too _ tt (active_count c.args.self.now) e)
 
-pub returns-then-rec-self-clause-answer : goal.returns-then-rec-self-clause-answer
-unfolding answered
-returns-then-rec-self-clause-answer c =
-    let n = active_count c.args.self.now in
-    let f = image_fault c.args.image.now c.args.self.now true c.args.session in
-    sym (goes-on f _ n n c.in_ok-active.ensures.answer ∙ rw (lt-ltb _ _ c.if-rec-self.true) (ap Ok (sym (given-by f n c.in_ok-active.ensures.answer).1)))
+-- the checks of this desk have passed
+unrefused : (c : goal.After-ok_or) → record_fault c.args.image.now c.args.self.now c.args.session c.args.rec ≡ 0
+unrefused c = (given-by _ tt (rw (c.is_some.ensures, c.census-active.ensures, census-coherent c.args.self.now) at c.in_ok-check_record.ensures)).0
 
-pub returns-else-rec-self-clause-answer : goal.returns-else-rec-self-clause-answer
-unfolding answered cause
-returns-else-rec-self-clause-answer c =
-    let n = active_count c.args.self.now in
-    sym (goes-on (image_fault c.args.image.now c.args.self.now true c.args.session) _ n n c.in_ok-active.ensures.answer ∙ rw (le-ltb _ _ c.if-rec-self.false))
+inside : (c : goal.After-ok_or) → RecordEntered c.args.image.now c.args.self.now c.args.session c.args.rec
+inside c = record-entered _ _ _ _ (unrefused c)
 
-pub returns-then-rec-self-clause-inside : goal.returns-then-rec-self-clause-inside
-returns-then-rec-self-clause-inside c =
-    let h = entered c.args.image.now c.args.self.now true c.args.session (given-by _ (active_count c.args.self.now) c.in_ok-active.ensures.answer).0 in
-    (h.small, omega (arith, h.coherent.n-high, c.if-rec-self.true))
+pub returns-clause-answer : goal.returns-clause-answer
+returns-clause-answer c =
+    let d = c.args.self.now in
+    c.ok_or.ensures.value
+    ∙ rw (c.census-active.ensures, census-counts d ((says-coherent d).no (inside c).session.coherent)) (sym (answered-zero _ _ (Ok (active_count d)) (unrefused c)))
+
+-- what holds, holds of what is answered
+on-ok : {A E P : Type 0} (r : Result A E) → P → OnOk r P
+on-ok (Ok x) p = p
+on-ok (Err e) p = tt
+
+pub returns-clause-inside : goal.returns-clause-inside
+returns-clause-inside c = on-ok c.ok_or.result ((inside c).session.small, (inside c).small)
