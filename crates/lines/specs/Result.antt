@@ -7,10 +7,14 @@ use Rattle.lines.specs.declared.outcome.Outcome.{Outcome}
 use Rattle.lines.specs.declared.outcome.Outcome.TheVariants.{Refused, Ok, Start, End, Sealed, Empty, Own, Copy, Home, Wait}
 use Rattle.lines.specs.declared.outcome.Outcome.TheVariants.{None, Held, Cleared, Cut, Noted}
 
+-- "no K", K alone
+abbrev pub refused_text : ℕ → List ℕ
+refused_text k = result_of (110 ∷ 111 ∷ []) (k ∷ []) []
+
 -- results: ok; start, end or sealed with a number; empty; four words and own, copy or home; wait, held or cleared with a number; none;
--- "no K", K alone; "cut" for the step that is cut; step 9 prints no result
+-- "no K"; "cut" for the step that is cut; step 9 prints no result
 unfoldable pub outcome_text : Outcome → List ℕ
-outcome_text (Refused r) = result_of (110 ∷ 111 ∷ []) (number_of r ∷ []) []
+outcome_text (Refused r) = refused_text (number_of r)
 outcome_text Ok = result_of (111 ∷ 107 ∷ []) [] []
 outcome_text (Start n) = result_of (115 ∷ 116 ∷ 97 ∷ 114 ∷ 116 ∷ []) (n ∷ []) []
 outcome_text (End n) = result_of (101 ∷ 110 ∷ 100 ∷ []) (n ∷ []) []
@@ -29,6 +33,10 @@ outcome_text Noted = []
 -- a step's line: step number, call, arguments, result
 unfoldable pub step_line : ℕ → Step → Outcome → List ℕ
 step_line number step outcome = step_head number step ++ (outcome_text outcome ++ (10 ∷ []))
+
+-- the same of a step that is refused, by the number, whatever that is
+unfoldable pub refused_line : ℕ → Step → ℕ → List ℕ
+refused_line number step k = step_head number step ++ (refused_text k ++ (10 ∷ []))
 
 -- a line that prints no step: step number, a word, numbers
 unfoldable pub note_line : ℕ → List ℕ → List ℕ → List ℕ

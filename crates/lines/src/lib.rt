@@ -6,6 +6,6 @@ mod line;
 mod outcome;
 mod text;
 
-pub use line::{put_line, put_note};
+pub use line::{put_line, put_note, put_refused};
 pub use outcome::Outcome;
 pub use text::{put_number, put_numbers, put_text};

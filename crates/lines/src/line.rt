@@ -2,7 +2,7 @@
 ghost use Rattle.std.specs.Prelude.{◌+◌, ◌≤◌, length};
 ghost use Rattle.lines.specs.Put.{Put};
 ghost use Rattle.lines.specs.Line.{step_head};
-ghost use Rattle.lines.specs.Result.{outcome_text, step_line, note_line};
+ghost use Rattle.lines.specs.Result.{outcome_text, step_line, refused_line, note_line};
 
 use crate::outcome::Outcome;
 use crate::text::{put_head, put_result};
@@ -63,6 +63,18 @@ pub fn put_line(out: &mut [u8], at: usize, number: u64, step: Step, outcome: Out
 {
     let a = put_step_head(out, at, number, step);
     let b = put_outcome(out, a, outcome);
+    out[b] = b'\n';
+    b + 1
+}
+
+// The line of a step that is refused by a number, be it a cause's or none.
+pub fn put_refused(out: &mut [u8], at: usize, number: u64, step: Step, refusal: u64) -> usize
+    requires { at + 256 ≤ length out.old }
+    ensures put { Put (refused_line number step refusal) at out.old out.new result }
+    ensures upper_bound { result ≤ at + 256 }
+{
+    let a = put_step_head(out, at, number, step);
+    let b = put_result(out, a, b"no", &[refusal], b"");
     out[b] = b'\n';
     b + 1
 }

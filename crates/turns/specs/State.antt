@@ -86,9 +86,18 @@ counted_of s bytes = placed s (s.at + bytes) s.have s.put (s.number + 1)
 abbrev pub put_of : State → ℕ → State
 put_of s p = placed s s.at s.have p s.number
 
+-- what comes next where no write has failed
+abbrev pub unfailed : Next → Next
+unfailed Step = Step
+unfailed Open = Open
+unfailed Recover = Recover
+unfailed Over = Over
+unfailed Failed = Step
+unfailed Stopped = Stopped
+
 -- the lines were written out, or the write failed
 abbrev pub written_of : State → Bool → State
-written_of s failed = with_next (put_of s 0) (cond failed Failed s.next)
+written_of s failed = with_next (put_of s 0) (cond failed Failed (unfailed s.next))
 
 -- the bytes held stand first, with `came` more behind them; the input has ended where none came
 abbrev pub filled_of : State → ℕ → State
@@ -106,9 +115,18 @@ stopped_of s = with_next s Stopped
 abbrev pub sized_of : State → ℕ → State
 sized_of s size = with_next (planned s size s.cut) Open
 
+-- what comes next where the image is not to be opened
+abbrev pub unclosed : Next → Next
+unclosed Step = Step
+unclosed Open = Step
+unclosed Recover = Recover
+unclosed Over = Over
+unclosed Failed = Failed
+unclosed Stopped = Stopped
+
 -- the image is opened
 abbrev pub opened_of : State → State
-opened_of s = with_next s Step
+opened_of s = with_next s (unclosed s.next)
 
 -- a cut after k entries waits for the next step that stores
 abbrev pub cut_at : State → ℕ → State

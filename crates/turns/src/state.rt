@@ -66,7 +66,11 @@ pub fn written(s: State, done: bool) -> State
 {
     State {
         put: 0,
-        next: if done { s.next } else { Next::Failed },
+        next: match s.next {
+            _ if !done => Next::Failed,
+            Next::Failed => Next::Step,
+            next => next,
+        },
         ..s
     }
 }
@@ -101,7 +105,11 @@ pub fn opened(s: State) -> State
     ensures value { result ≡ opened_of s }
 {
     State {
-        next: Next::Step,
+        next: if s.next == Next::Open {
+            Next::Step
+        } else {
+            s.next
+        },
         ..s
     }
 }
