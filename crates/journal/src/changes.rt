@@ -58,7 +58,7 @@ impl Changes {
     }
 
     // All of them, in order.
-    pub(crate) fn as_slice(&self) -> &[Change]
+    pub fn as_slice(&self) -> &[Change]
         ensures all { result.now ≡ self.now }
         ensures upper_bound { length self.now ≤ 13 }
     {
