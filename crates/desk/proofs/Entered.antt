@@ -5,6 +5,7 @@ use mathlib.Core.Path.{◌≡◌}
 use mathlib.Core.List.{List}
 use native.Mathlib.Omega.{arith}
 use lib.Dec.{ltb}
+use Rattle.std.specs.Prelude.{Result, Ok, Err, OnOk}
 use lib.ListN.{length}
 use borrow.Author.Tests.{ltb-true}
 use Rattle.layout.specs.Checks.{unless}
@@ -63,3 +64,8 @@ entry-most img d room s =
     first-most 4 _ _ (unless-most 4 (shaped_b img) 1 (omega arith))
     (first-most 4 _ _ (unless-most 4 (coherent_b d && agrees_b img d.clock d.n d.m) 2 (omega arith))
     (first-most 4 _ _ (unless-most 4 room 3 (omega arith)) (unless-most 4 (ltb s d.m) 4 (omega arith))))
+
+-- what holds, holds of what is answered
+pub on-ok : {A E P : Type 0} (r : Result A E) → P → OnOk r P
+on-ok (Ok x) p = p
+on-ok (Err e) p = tt

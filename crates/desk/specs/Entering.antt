@@ -26,5 +26,8 @@ abbrev pub image_fault : List ℕ → Desk → Bool → ℕ → ℕ
 image_fault img d room s = entry_fault img (coherent_b d) d.clock d.n d.m room s
 
 -- of a call with an image and a record, and no trace: then 5, the record is at or above N
+abbrev pub record_entry_fault : List ℕ → Bool → ℕ → ℕ → ℕ → ℕ → ℕ → ℕ
+record_entry_fault img coherent clock n m s r = first (entry_fault img coherent clock n m true s) (unless (ltb r n) 5)
+
 abbrev pub record_fault : List ℕ → Desk → ℕ → ℕ → ℕ
-record_fault img d s r = first (image_fault img d true s) (unless (ltb r d.n) 5)
+record_fault img d s r = record_entry_fault img (coherent_b d) d.clock d.n d.m s r

@@ -38,6 +38,7 @@ impl Phase {
 }
 
 impl RecordCopy {
+    // Each word is looked at, as each place in `all_zero`.
     fn is_zero(&self) -> bool
         ensures { result ≡ zero_copy_b self.now }
     {
@@ -104,7 +105,7 @@ impl Session {
     }
 }
 
-// Whether nothing is left. Every place is looked at: a search that stops at the first one left takes a step for each.
+// Whether nothing is left. Every place is looked at: a search that stops at the first one left takes a step for each, and much longer.
 fn all_zero<const N: usize>(left: &[u8; N]) -> bool
     ensures { result ≡ list_all (λ x. x == 0) left.now }
 {

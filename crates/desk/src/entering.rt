@@ -1,9 +1,8 @@
 // The first checks of a session call, in the order of their numbers, as methods of the desk; public for the crates above.
-ghost use Rattle.std.specs.Prelude.{true, ◌≡◌, ◌<◌, ltb, OnOk};
-ghost use Rattle.layout.specs.Checks.{first, unless};
+ghost use Rattle.std.specs.Prelude.{◌≡◌, ◌<◌, OnOk};
 ghost use Rattle.layout.specs.Refusal.{answer_of};
 ghost use Rattle.desk.specs.Desk.{active_count};
-ghost use Rattle.desk.specs.Entering.{entry_fault, desk_fault, image_fault, record_fault};
+ghost use Rattle.desk.specs.Entering.{entry_fault, desk_fault, image_fault, record_entry_fault, record_fault};
 
 use crate::state::Desk;
 use layout::Refusal;
@@ -51,7 +50,7 @@ pub fn check_record(
     session: u64,
     rec: u64,
 ) -> Result<(), Refusal>
-    ensures { result ≡ answer_of (first (entry_fault image.now coherent clock n m true session) (unless (ltb rec n) 5)) tt }
+    ensures { result ≡ answer_of (record_entry_fault image.now coherent clock n m session rec) tt }
 {
     check_entry(image, coherent, clock, n, m, true, session)?;
     if rec < n {

@@ -44,7 +44,7 @@ impl Model for Changes {
 }
 
 impl Changes {
-    // These, in order.
+    // These, in order; at most 13, as gather makes.
     pub fn of(list: &[Change]) -> Self
         requires { length list.now ≤ 13 }
         ensures { result ≡ list.now }

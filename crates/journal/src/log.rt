@@ -100,8 +100,8 @@ fn put_body(
     put_copies(slot, base, trace, copies)
 }
 
-// A log, in the slot that starts at `base` of the image: its body, a fence, the persist number, a fence. The changes are the words of the
-// copies that differ from the home records, or too many for a short log.
+// A log, in the slot that starts at `base` of the image: its body, a fence, the persist number, a fence. The changes, as gather makes
+// them, are the words of the copies that differ from the home records, or too many for a short log; any are written as they are given.
 pub fn write_log(
     slot: &mut [u64],
     base: u64,

@@ -7,7 +7,7 @@ use Rattle.lines.specs.declared.outcome.Outcome.{Outcome}
 use Rattle.lines.specs.declared.outcome.Outcome.TheVariants.{Refused, Ok, Start, End, Sealed, Empty, Own, Copy, Home, Wait}
 use Rattle.lines.specs.declared.outcome.Outcome.TheVariants.{None, Held, Cleared, Cut, Noted}
 
--- "no K", K alone
+-- a space, then "no K", K alone
 abbrev pub refused_text : ℕ → List ℕ
 refused_text k = result_of (110 ∷ 111 ∷ []) (k ∷ []) []
 

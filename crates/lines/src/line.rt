@@ -67,7 +67,7 @@ pub fn put_line(out: &mut [u8], at: usize, number: u64, step: Step, outcome: Out
     b + 1
 }
 
-// The line of a step that is refused by a number, be it a cause's or none.
+// The line of a step that is refused by any number, a cause's or another.
 pub fn put_refused(out: &mut [u8], at: usize, number: u64, step: Step, refusal: u64) -> usize
     requires { at + 256 ≤ length out.old }
     ensures put { Put (refused_line number step refusal) at out.old out.new result }

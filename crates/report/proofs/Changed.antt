@@ -1,5 +1,6 @@
 -- The change of each record.
-use Rattle.std.specs.Prelude.{Option, Some, None}
+use Rattle.std.specs.Prelude.{Some, None}
+use Rattle.std.proofs.lemmas.Option.{none-some, same_Some}
 use Prim.Native.Nat.{ℕ, ◌-◌, ◌≤◌}
 use mathlib.Core.Path.{◌≡◌, sym, ap, ◌∙◌, subst}
 use mathlib.Core.Bool.{true, false}
@@ -35,20 +36,11 @@ module _ (img : List ℕ) (n : ℕ) where
       → (reel_b (home_words img n) ≡ true) × (c ≡ change_of ((reel_of (home_words img n)).carrier - 1) 1 1 (reel_of (home_words img n)).seconds)
   by-reel c e =
       by-test (reel_b (home_words img n))
-      (λ y. (y, some-same (sym e ∙ change-reel y)))
-      (λ f. none-some (sym (change-none f) ∙ e))
-    where
-      some-same : {x y : Change} → ◌≡◌ {A = Option Change} (Some x) (Some y) → x ≡ y
-      some-same e = cc
-
-      none-some : {x : Change} {P : Type 0} → ◌≡◌ {A = Option Change} None (Some x) → P
-      none-some e = cc
+      (λ y. (y, same_Some _ _ (sym e ∙ change-reel y)))
+      (λ f. absurd (none-some _ (sym (change-none f) ∙ e)))
 
   pub by-none : change_at img n ≡ None → reel_b (home_words img n) ≡ false
-  by-none e = by-test (reel_b (home_words img n)) (λ y. none-some (sym e ∙ change-reel y)) (λ f. f)
-    where
-      none-some : {x : Change} {P : Type 0} → ◌≡◌ {A = Option Change} None (Some x) → P
-      none-some e = cc
+  by-none e = by-test (reel_b (home_words img n)) (λ y. absurd (none-some _ (sym e ∙ change-reel y))) (λ f. f)
 
   pub other_stays : ((r : Reel) → counted_as (home_words img n) ≡ OnReel r → ⊥) → None ≡ change_at img n
   other_stays h = sym (change-none (no-reel (home_words img n) h))

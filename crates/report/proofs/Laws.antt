@@ -33,7 +33,7 @@ use Rattle.report.proofs.Checks.{passed, refused-table, filled-table}
 use Rattle.report.proofs.Counted.{unused-no-reel, on_test, reel-test, bad-test, unused-test, carrier-known, kind-most}
 use Rattle.report.proofs.Sums.{sum_same, seconds-most, counted, left_out}
 use Rattle.report.proofs.Changed.{change-reel, change-none, by-reel}
-use Rattle.report.proofs.Table.{begun_more, one-record}
+use Rattle.report.proofs.Table.{begun_more, begun_table, one-record}
 
 -- ---- which records count as what
 module _ (a b c d : ℕ) where
@@ -293,6 +293,7 @@ report-laws = record {
   refused-said = refused-said;
   filled-said = filled-said;
   begun-lines = begun-lines;
+  no-record = λ img ls. sym (begun_table img ls);
   one-record = one-record;
   reel-change = reel-change;
   other-change = change-none;

@@ -106,8 +106,9 @@ pub record ReportLaws : Type 0 where
       → report_said img room ≡ report (count_of reel_b img) (seconds_of reel_b img) (count_of bad_b img) (count_of unused_b img)
   -- three changes begin the lines afresh
   pub begun-lines : (ls : List CarrierLine) → 3 ≤ length ls → begun 3 ls ≡ updated (updated (updated ls (afresh 0)) (afresh 1)) (afresh 2)
-  -- with one more record the table is changed by that record's change; a reel's is one of its carrier's line, by 1 and its own seconds; other
+  -- over no records the lines are as they begin; with one more record the table is changed by that record's change; a reel's is one of its carrier's line, by 1 and its own seconds; other
   -- records make none; neither these changes nor the three before them are to a line past the third
+  pub no-record : (img : List ℕ) (ls : List CarrierLine) → table_to img 0 ls ≡ begun 3 ls
   pub one-record : (img : List ℕ) (n : ℕ) (ls : List CarrierLine) → table_to img (n + 1) ls ≡ changed (table_to img n ls) (change_at img n)
   pub reel-change : (img : List ℕ) (n b : ℕ) → on_b b (record_at img n) ≡ true
       → change_at img n ≡ Some (record { line = b - 1; keep = 1; reels = 1; seconds = at img (4 + 4 * n + 3) })

@@ -7,6 +7,7 @@ ghost use Rattle.report.specs.Report.{table_to};
 use crate::changing::{afresh, change_at};
 use crate::line::{CarrierLine, update};
 
+// The first three lines begin afresh.
 #[tactic(auto, using(crate::proofs::Table::begun_more))]
 pub fn begin_lines(lines: &mut [CarrierLine])
     requires { 3 ≤ length lines.old }
@@ -17,7 +18,7 @@ pub fn begin_lines(lines: &mut [CarrierLine])
     }
 }
 
-// The lines begin afresh; records that are no reels change nothing.
+// Each reel is added to the line of its carrier, which has begun afresh; other records change nothing.
 #[tactic(auto, using(crate::proofs::Table::begun_table, crate::proofs::Table::can_change, crate::proofs::Table::some_change, crate::proofs::Table::no_change))]
 pub fn add_records(image: &[u64], lines: &mut [CarrierLine])
     requires { (records_of image.now ≤ 256) × (lines.old ≡ begun 3 lines.old) }

@@ -86,7 +86,7 @@ counted_of s bytes = placed s (s.at + bytes) s.have s.put (s.number + 1)
 abbrev pub put_of : State → ℕ → State
 put_of s p = placed s s.at s.have p s.number
 
--- what comes next where no write has failed
+-- what comes next behind a write that was done: it takes the failure of one before it away
 abbrev pub unfailed : Next → Next
 unfailed Step = Step
 unfailed Open = Open
@@ -115,18 +115,18 @@ stopped_of s = with_next s Stopped
 abbrev pub sized_of : State → ℕ → State
 sized_of s size = with_next (planned s size s.cut) Open
 
--- what comes next where the image is not to be opened
-abbrev pub unclosed : Next → Next
-unclosed Step = Step
-unclosed Open = Step
-unclosed Recover = Recover
-unclosed Over = Over
-unclosed Failed = Failed
-unclosed Stopped = Stopped
+-- what comes next behind an opening; what else was to come stays
+abbrev pub past_open : Next → Next
+past_open Step = Step
+past_open Open = Step
+past_open Recover = Recover
+past_open Over = Over
+past_open Failed = Failed
+past_open Stopped = Stopped
 
 -- the image is opened
 abbrev pub opened_of : State → State
-opened_of s = with_next s (unclosed s.next)
+opened_of s = with_next s (past_open s.next)
 
 -- a cut after k entries waits for the next step that stores
 abbrev pub cut_at : State → ℕ → State

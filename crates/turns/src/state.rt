@@ -59,7 +59,7 @@ pub fn counted(s: State, bytes: usize) -> State
     }
 }
 
-// The lines were written out, or not all of them were taken.
+// The lines were written out, which takes the failure of a write before away; or not all of them were taken.
 pub fn written(s: State, done: bool) -> State
     ensures at_value { (result.at ≡ s.at) × (result.have ≡ s.have) × (result.put ≡ 0) × (result.size ≡ s.size) × (result.number ≡ s.number) }
     ensures value { result ≡ written_of s (not done) }
@@ -100,6 +100,7 @@ pub fn stopped(s: State) -> State
     }
 }
 
+// The image is opened; what else comes next stays.
 pub fn opened(s: State) -> State
     ensures follows { Follows s result s.put s.size }
     ensures value { result ≡ opened_of s }

@@ -1,12 +1,12 @@
 use mathlib.Core.Path.{◌≡◌, sym, ◌∙◌}
-use Rattle.std.specs.Prelude.{Result, Ok, Err, OnOk}
+use Rattle.std.specs.Prelude.{Ok}
 use Rattle.desk.specs.Entering.{image_fault}
 use Rattle.std.proofs.lemmas.Result.{err_from_is_err_and}
 use Rattle.layout.proofs.AnswerLaws.{given-by, refused-too}
 use Rattle.layout.proofs.ChecksLaws.{answered-zero}
 use Rattle.desk.specs.Desk.{active_count}
 use Rattle.desk.proofs.Census.{census-coherent, census-counts}
-use Rattle.desk.proofs.Entered.{Entered, entered}
+use Rattle.desk.proofs.Entered.{Entered, entered, on-ok}
 use Rattle.desk.proofs.Facts.{says-coherent}
 use Rattle.desk.proofs.state.Desk.entered.Goals as goal
 
@@ -28,11 +28,6 @@ returns-clause-answer c =
     let d = c.args.self.now in
     c.ok_or.ensures.value
     ∙ rw (c.census-active.ensures, census-counts d ((says-coherent d).no (inside c).coherent)) (sym (answered-zero _ _ (Ok (active_count d)) (unrefused c)))
-
--- what holds, holds of what is answered
-on-ok : {A E P : Type 0} (r : Result A E) → P → OnOk r P
-on-ok (Ok x) p = p
-on-ok (Err e) p = tt
 
 pub returns-clause-inside : goal.returns-clause-inside
 returns-clause-inside c = on-ok c.ok_or.result (inside c).small
